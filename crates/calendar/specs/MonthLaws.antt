@@ -1,0 +1,103 @@
+-- What follows for months: codes, lengths, and that settlement days rise.
+use mathlib.Core.Path.{_≡_, refl, sym, ap, _∙_}
+use mathlib.Core.Bool.{Bool, true, false, _&&_}
+use Prim.Native.Nat.{ℕ, zero, suc, _+_, _-_, _*_, _/_, _%_, _≤_, _<_}
+use native.Mathlib.Numerals.{add-one}
+use native.Mathlib.Omega.{arith}
+use lib.Dec.{eqb, leb, ltb}
+use borrow.Author.Tests.{ltb-true, leb-true, lt-ltb, le-ltb, le-leb}
+use Rattle.lists.specs.Choice.{pick}
+use Rattle.calendar.specs.declared.day.Day.{Day}
+use Rattle.calendar.specs.declared.day.Day.the-variants.{On, NoDay}
+use Rattle.calendar.specs.declared.month.Month.{Month}
+use Rattle.calendar.specs.declared.month.Coded.{Coded}
+use Rattle.calendar.specs.declared.month.Coded.the-variants.{Is, NoMonth}
+use Rattle.calendar.specs.Days.{days, firstWorking, nextWorking, lastWorking, workingBefore, accepted}
+use Rattle.calendar.specs.DayLaws.{on-no-day, next-none, first-works, first-within, first-skips, first-misses, first-is, last-works, last-skips, offRun, run-off, accepted-run, all-off-run}
+use Rattle.calendar.specs.Months.{isCode, monthOf, codeOf, isShort, monthLength, firstDay, thirdWednesday, settlementDay, lastTradingDay}
+
+-- ---- codes
+
+in-code : (code : ℕ) → isCode code ≡ true → (code < 10000) × ((1 ≤ code % 100) × (code % 100 ≤ 12))
+unfolding isCode
+in-code code e = go (ltb code 10000) (leb 1 (code % 100)) (leb (code % 100) 12) refl refl refl e
+  where
+    go : (a b c : Bool) → ltb code 10000 ≡ a → leb 1 (code % 100) ≡ b → leb (code % 100) 12 ≡ c → a && (b && c) ≡ true → (code < 10000) × ((1 ≤ code % 100) × (code % 100 ≤ 12))
+    go true true true p q r e = (ltb-true _ _ p, (leb-true _ _ q, leb-true _ _ r))
+    go true true false p q r e = let z : _≡_ {A = ℕ} 0 1 = cc in absurd (omega arith)
+    go true false c p q r e = let z : _≡_ {A = ℕ} 0 1 = cc in absurd (omega arith)
+    go false b c p q r e = let z : _≡_ {A = ℕ} 0 1 = cc in absurd (omega arith)
+
+-- a code's month has that code
+pub code-of : (code : ℕ) (m : Month) → monthOf code ≡ Is m → (codeOf (m .number) ≡ code) × (m .number < 1200)
+unfolding monthOf codeOf
+code-of code m e = go (isCode code) refl e
+  where
+    go : (t : Bool) → isCode code ≡ t → pick t (Is (record { number = code / 100 * 12 + (code % 100 - 1) })) NoMonth ≡ Is m → (m .number / 12 * 100 + (m .number % 12 + 1) ≡ code) × (m .number < 1200)
+    go true p q =
+        let y : _≡_ {A = Month} (record { number = code / 100 * 12 + (code % 100 - 1) }) m = cc in
+        let z : code / 100 * 12 + (code % 100 - 1) ≡ m .number = ap (λ (x : Month). x .number) y in
+        omega (arith, in-code code p)
+    go false p q = let z : _≡_ {A = ℕ} 0 1 = cc in absurd (omega arith)
+
+-- and a month's code is that month's
+pub month-of : (m : ℕ) → m < 1200 → monthOf (codeOf m) ≡ Is (record { number = m })
+unfolding monthOf codeOf isCode
+month-of m h =
+    let y : (m / 12 * 100 + (m % 12 + 1)) / 100 ≡ m / 12 = omega arith in
+    let r : (m / 12 * 100 + (m % 12 + 1)) % 100 ≡ m % 12 + 1 = omega arith in
+    let z : m / 12 * 12 + (m % 12 + 1 - 1) ≡ m = omega arith in
+    rw (y, r, lt-ltb (m / 12 * 100 + (m % 12 + 1)) 10000 (omega arith), le-leb 1 (m % 12 + 1) (omega arith), le-leb (m % 12 + 1) 12 (omega arith), z)
+
+-- codes rise with the month
+pub codes-rise : (m n : ℕ) → m < n → codeOf m < codeOf n
+unfolding codeOf
+codes-rise m n h = omega arith
+
+-- ---- the days of a month
+
+pub length-within : (m : ℕ) → (28 ≤ monthLength m) × (monthLength m ≤ 31)
+unfolding monthLength
+length-within m = go (eqb (m % 12) 1) (eqb (m / 12 % 4) 0) (isShort (m % 12))
+  where
+    go : (a b c : Bool) → (28 ≤ pick a (pick b 29 28) (pick c 30 31)) × (pick a (pick b 29 28) (pick c 30 31) ≤ 31)
+    go true true c = omega arith
+    go true false c = omega arith
+    go false b true = omega arith
+    go false b false = omega arith
+
+pub first-most : (i : ℕ) → firstDay i ≤ i * 31
+unfolding firstDay
+first-most zero = omega arith
+first-most (suc i) = omega (arith, first-most i, length-within (240 + i))
+
+pub first-rises : (i n : ℕ) → firstDay i + 28 * n ≤ firstDay (i + n)
+unfolding firstDay
+first-rises i zero = let z : i + 0 ≡ i = omega arith in omega (arith, ap firstDay z)
+first-rises i (suc n) = let z : i + suc n ≡ suc (i + n) = omega arith in omega (arith, ap firstDay z, first-rises i n, length-within (240 + (i + n)))
+
+-- the third Wednesday is the Wednesday among the days 15 to 21 of its month
+pub third : (m : ℕ) → (thirdWednesday m % 7 ≡ 0) × ((firstDay (m - 240) + 14 ≤ thirdWednesday m) × (thirdWednesday m ≤ firstDay (m - 240) + 20))
+unfolding thirdWednesday
+third m = (omega arith, (omega arith, omega arith))
+
+-- the calendar ends with December 2029
+ends : firstDay 120 ≡ 3653
+unfolding firstDay monthLength
+ends = refl
+
+pub past-end : (m : ℕ) → 360 ≤ m → 3653 ≤ thirdWednesday m
+past-end m h = let z : 120 + (m - 360) ≡ m - 240 = omega arith in omega (arith, third m, ends, first-rises 120 (m - 360), ap firstDay z)
+
+-- ---- the settlement day of a month, by where the month lies
+module _ (w : ℕ → Bool) (m : ℕ) where
+  pub settle-before : m < 240 → settlementDay w m ≡ NoDay
+  unfolding settlementDay
+  settle-before h = rw (lt-ltb m 240 h)
+
+  pub settle-in : 240 ≤ m → settlementDay w m ≡ nextWorking w (thirdWednesday m)
+  unfolding settlementDay
+  settle-in h = rw (le-ltb m 240 h)
+
+  pub settle-past : 360 ≤ m → settlementDay w m ≡ NoDay
+  settle-past h = settle-in (omega arith) ∙ next-none w (thirdWednesday m) (past-end m h)

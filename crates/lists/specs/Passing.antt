@@ -1,0 +1,94 @@
+-- The numbers below n that pass a test, in rising order; and a test of all elements of a list.
+use mathlib.Core.Path.{_≡_, refl, sym, ap, _∙_}
+use mathlib.Core.Bool.{Bool, true, false, _&&_}
+use mathlib.Core.List.{List, [], _∷_, _++_, append-nil}
+use Prim.Native.Nat.{ℕ, zero, suc, _+_, _-_, _≤_, _<_}
+use native.Mathlib.Numerals.{add-one}
+use native.Mathlib.Decide.{decLt}
+use native.Mathlib.Omega.{arith}
+use lib.ListN.{length, length-append}
+use Rattle.lists.specs.Choice.{pick}
+
+unfoldable pub passing : (ℕ → Bool) → ℕ → List ℕ
+passing p zero = []
+passing p (suc n) = passing p n ++ pick (p n) (n ∷ []) []
+
+unfoldable pub all : (ℕ → Bool) → List ℕ → Bool
+all test [] = true
+all test (x ∷ rest) = test x && all test rest
+
+-- ---- one number more
+
+module _ (p : ℕ → Bool) (n : ℕ) where
+  pub passing-hit : p n ≡ true → passing p (n + 1) ≡ passing p n ++ (n ∷ [])
+  unfolding passing
+  passing-hit e = rw (add-one, e)
+
+  pub passing-miss : p n ≡ false → passing p (n + 1) ≡ passing p n
+  unfolding passing
+  passing-miss e = rw (add-one, e) (append-nil (passing p n))
+
+  pub count-hit : p n ≡ true → length (passing p (n + 1)) ≡ length (passing p n) + 1
+  count-hit e = ap length (passing-hit e) ∙ length-append (passing p n) (n ∷ [])
+
+  pub count-step : length (passing p (n + 1)) ≡ length (passing p n) + pick (p n) 1 0
+  count-step = go (p n) refl
+    where
+      go : (t : Bool) → p n ≡ t → length (passing p (n + 1)) ≡ length (passing p n) + pick t 1 0
+      go true e = count-hit e
+      go false e = let z : length (passing p n) ≡ length (passing p n) + 0 = omega arith in ap length (passing-miss e) ∙ z
+
+-- ---- counts
+
+module _ (p : ℕ → Bool) where
+  pub count-grows : (n k : ℕ) → length (passing p n) ≤ length (passing p (n + k))
+  count-grows n zero = let z : n + 0 ≡ n = omega arith in rw z (omega arith)
+  count-grows n (suc k) = let z : n + suc k ≡ n + k + 1 = omega arith in rw (z, count-step p (n + k)) (omega (arith, count-grows n k))
+
+  pub count-past : (n k : ℕ) → n < k → p n ≡ true → length (passing p n) < length (passing p k)
+  count-past n k h e = let z : n + 1 + (k - (n + 1)) ≡ k = omega arith in omega (arith, count-hit p n e, ap (λ i. length (passing p i)) z, count-grows (n + 1) (k - (n + 1)))
+  pub passing-none : (n : ℕ) → ((k : ℕ) → k < n → p k ≡ false) → passing p n ≡ []
+  unfolding passing
+  passing-none zero h = refl
+  passing-none (suc n) h = rw (passing-none n (λ k q. h k (omega arith)), h n (omega arith))
+
+  -- from a number on, none passes
+  pub passing-ends : (n k : ℕ) → ((i : ℕ) → n ≤ i → p i ≡ false) → passing p (n + k) ≡ passing p n
+  passing-ends n zero h = let z : n + 0 ≡ n = omega arith in rw z
+  passing-ends n (suc k) h = let z : n + suc k ≡ n + k + 1 = omega arith in rw z (passing-miss p (n + k) (h (n + k) (omega arith)) ∙ passing-ends n k h)
+
+-- a weaker test passes at least as many
+pub count-more : (p q : ℕ → Bool) (n : ℕ) → ((k : ℕ) → p k ≡ true → q k ≡ true) → length (passing p n) ≤ length (passing q n)
+count-more p q zero h = let e = ap length (passing-none p 0 (λ k i. absurd (omega arith))) in omega arith
+count-more p q (suc n) h = rw (sym (add-one n), count-step p n, count-step q n) (go (p n) refl (count-more p q n h))
+  where
+    go : (t : Bool) → p n ≡ t → length (passing p n) ≤ length (passing q n) → length (passing p n) + pick t 1 0 ≤ length (passing q n) + pick (q n) 1 0
+    go true e ih = rw (h n e) (omega arith)
+    go false e ih = omega arith
+
+-- ---- all elements
+
+pub all-append : (test : ℕ → Bool) (a b : List ℕ) → all test (a ++ b) ≡ all test a && all test b
+unfolding all
+all-append test [] b = refl
+all-append test (x ∷ a) b = go (test x) (all-append test a b)
+  where
+    go : (t : Bool) → all test (a ++ b) ≡ all test a && all test b → t && all test (a ++ b) ≡ (t && all test a) && all test b
+    go true ih = ih
+    go false ih = refl
+
+pub and-both : (s t : Bool) → s && t ≡ true → (s ≡ true) × (t ≡ true)
+and-both true t e = (refl, e)
+and-both false t e = let z : _≡_ {A = ℕ} 0 1 = cc in absurd (omega arith)
+
+-- what holds of all that pass holds of each
+pub all-passing : (test p : ℕ → Bool) (n k : ℕ) → all test (passing p n) ≡ true → k < n → p k ≡ true → test k ≡ true
+unfolding all passing
+all-passing test p zero k a h e = absurd (omega arith)
+all-passing test p (suc n) k a h e =
+    let both = and-both _ _ (sym (all-append test (passing p n) (pick (p n) (n ∷ []) [])) ∙ a) in
+    go (decLt k n) both (all-passing test p n k (both .0))
+  where
+    go : Dec (k < n) → (all test (passing p n) ≡ true) × (all test (pick (p n) (n ∷ []) []) ≡ true) → (k < n → p k ≡ true → test k ≡ true) → test k ≡ true
+    go (yes u) both ih = ih u e
+    go (no u) both ih = let z : n ≡ k = omega arith in and-both (test k) true (rw (z, e) at (both .1)) .0
