@@ -17,6 +17,7 @@ use Rattle.calendar.specs.declared.day.Day.{Day}
 use Rattle.calendar.specs.declared.listing.Chosen.{Chosen}
 use Rattle.calendar.specs.declared.listing.Listing.{Listing}
 use Rattle.calendar.specs.Days.{isNoDay}
+use Rattle.calendar.specs.DayLaws.{differ}
 use Rattle.calendar.specs.Months.{isQuarterly, codeOf, settlementDay}
 use Rattle.calendar.specs.MonthLaws.{settle-past}
 use Rattle.calendar.specs.Listing.{isAfter, settlesAfter, isCandidate, places, earlier, isListed, settles, listedMonths, unknown, listing}
@@ -38,9 +39,6 @@ and-true false = refl
 -- two that agree in each field
 same : {q q′ o o′ : ℕ} {k k′ : Bool} {c c′ : List ℕ} → q ≡ q′ → o ≡ o′ → k ≡ k′ → c ≡ c′ → _≡_ {A = Chosen} (record { quarterly = q; others = o; known = k; codes = c }) (record { quarterly = q′; others = o′; known = k′; codes = c′ })
 same e f g h = rw (e, f, g, h)
-
-pub clash : {A : Type 0} → true ≡ false → A
-clash e = let z : _≡_ {A = ℕ} 0 1 = cc in absurd (omega arith)
 
 -- a number is below k where its smaller with k is
 below-min : (k n : ℕ) → ltb (min k n) k ≡ ltb n k
@@ -99,11 +97,10 @@ module _ (w : ℕ → Bool) (t : ℕ) where
     chosen-skip : settlesAfter w t m ≡ false → chosenBefore w t m ≡ chosenBefore w t (m + 1)
     unfolding chosenBefore isListed
     chosen-skip e =
-        rw
-        (
-        passing-miss (isCandidate w t true) m (rw e (and-false (isQuarterly m))),
-        passing-miss (isCandidate w t false) m (rw e (and-false (not (isQuarterly m)))),
-        passing-miss (isListed w t) m (rw e)
+        rw (
+          passing-miss (isCandidate w t true) m (rw e (and-false (isQuarterly m))),
+          passing-miss (isCandidate w t false) m (rw e (and-false (not (isQuarterly m)))),
+          passing-miss (isListed w t) m (rw e),
         )
 
     chosen-full : (quarterly : Bool) → isQuarterly m ≡ quarterly → settlesAfter w t m ≡ true → places quarterly ≤ earlier w t quarterly m → chosenBefore w t m ≡ chosenBefore w t (m + 1)
@@ -160,11 +157,10 @@ module _ (w : ℕ → Bool) (t : ℕ) where
   pub chosen-none : chosenBefore w t 240 ≡ noneChosen
   unfolding chosenBefore isListed all
   chosen-none =
-      rw
-      (
-      passing-none (isCandidate w t true) 240 (λ m h. rw (before-calendar m h) (and-false (isQuarterly m))),
-      passing-none (isCandidate w t false) 240 (λ m h. rw (before-calendar m h) (and-false (not (isQuarterly m)))),
-      passing-none (isListed w t) 240 (λ m h. rw (before-calendar m h))
+      rw (
+        passing-none (isCandidate w t true) 240 (λ m h. rw (before-calendar m h) (and-false (isQuarterly m))),
+        passing-none (isCandidate w t false) 240 (λ m h. rw (before-calendar m h) (and-false (not (isQuarterly m)))),
+        passing-none (isListed w t) 240 (λ m h. rw (before-calendar m h)),
       )
 
   -- where both kinds are full, no later month is listed
@@ -192,13 +188,16 @@ module _ (w : ℕ → Bool) (t : ℕ) where
   past-settles : (m : ℕ) → 360 ≤ m → settlesAfter w t m ≡ true
   past-settles m h = after-is m (omega arith) ∙ ap (isAfter t) (settle-past w m h)
 
+  pub past-candidate : (m : ℕ) → 360 ≤ m → (quarterly : Bool) → isQuarterly m ≡ quarterly → isCandidate w t quarterly m ≡ true
+  past-candidate m h quarterly e = candidate m quarterly e (past-settles m h)
+
   -- a listed month past the end
   past-unknown : (m : ℕ) → 360 ≤ m → m < 1200 → isListed w t m ≡ true → listing w t ≡ unknown
   unfolding listing
   past-unknown m h k e = go (all (settles w) (listedMonths w t)) refl
     where
       go : (a : Bool) → all (settles w) (listedMonths w t) ≡ a → pick a (record { known = true; codes = map codeOf (listedMonths w t) }) unknown ≡ unknown
-      go true a = clash (sym (all-passing (settles w) (isListed w t) 1200 m a k e) ∙ ap (λ d. not (isNoDay d)) (settle-past w m h))
+      go true a = differ (ap (λ d. not (isNoDay d)) (sym (settle-past w m h)) ∙ all-passing (settles w) (isListed w t) 1200 m a k e)
       go false a = refl
 
   pub short-listing : (chosenBefore w t 360 .quarterly + chosenBefore w t 360 .others ≡ 6 → ⊥) → listing w t ≡ unknown
@@ -218,3 +217,17 @@ module _ (w : ℕ → Bool) (t : ℕ) where
   pub chosen-most : (m : ℕ) → (chosenBefore w t m .quarterly ≤ 4) × (chosenBefore w t m .others ≤ 2)
   unfolding chosenBefore
   chosen-most m = omega arith
+
+  -- ---- as one computation: n months considered, from January 2020 on
+
+  unfoldable pub chosenAfter : ℕ → Chosen
+  chosenAfter zero = noneChosen
+  chosenAfter (suc n) = considered (chosenAfter n) (240 + n) (settlementDay w (240 + n)) t
+
+  pub chosen-after : (n : ℕ) → chosenAfter n ≡ chosenBefore w t (240 + n)
+  unfolding chosenAfter
+  chosen-after zero = sym chosen-none
+  chosen-after (suc n) = let z : 240 + n + 1 ≡ 240 + suc n = omega arith in rw (chosen-after n) (chosen-next (240 + n) (omega arith) ∙ ap (chosenBefore w t) z)
+
+  pub computed-listing : (n : ℕ) → n ≤ 960 → chosenAfter n .quarterly + chosenAfter n .others ≡ 6 → answered (chosenAfter n) ≡ listing w t
+  computed-listing n h e = rw (chosen-after n) (full-listing (240 + n) (omega arith) (rw (chosen-after n) at e))

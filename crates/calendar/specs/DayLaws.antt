@@ -96,6 +96,9 @@ module _ (w : ℕ → Bool) (d : ℕ) where
 
 -- ---- what a search finds
 
+pub differ : {A : Type 0} → false ≡ true → A
+differ e = let z : _≡_ {A = ℕ} 0 1 = cc in absurd (omega arith)
+
 -- a day and no day differ
 pub on-no-day : {A : Type 0} {d : ℕ} → On d ≡ NoDay → A
 on-no-day e = let z : _≡_ {A = ℕ} 0 1 = cc in absurd (omega arith)
@@ -167,6 +170,17 @@ module _ (w : ℕ → Bool) where
       go true p u ih q = let z : d ≡ f = cc in absurd (omega arith)
       go false p (yes u) ih q = ih q k a u
       go false p (no u) ih q = let z : k ≡ d = omega arith in rw z p
+
+  -- where there is a working day before d, the last one is found, and not before it
+  pub last-finds : (d k : ℕ) → k < d → w k ≡ true → (l : ℕ) × ((lastWorking w d ≡ On l) × (k ≤ l))
+  unfolding lastWorking
+  last-finds zero k h e = absurd (omega arith)
+  last-finds (suc d) k h e = go (w d) refl (decLt k d) (last-finds d k)
+    where
+      go : (t : Bool) → w d ≡ t → Dec (k < d) → (k < d → w k ≡ true → (l : ℕ) × ((lastWorking w d ≡ On l) × (k ≤ l))) → (l : ℕ) × ((pick t (On d) (lastWorking w d) ≡ On l) × (k ≤ l))
+      go true p u ih = (d, (refl, omega arith))
+      go false p (yes u) ih = ih u e
+      go false p (no u) ih = let z : k ≡ d = omega arith in differ (sym p ∙ rw (← z) e)
 
 -- ---- breaks: days off that run
 
@@ -280,8 +294,5 @@ module _ (w : ℕ → Bool) where
           let z : d - 15 + 15 ≡ d = omega arith in
           let b = run-break (d - 15) (omega (arith, ap (offRun w) z)) in
           let c = no-break-at (d - 15) (days - 14) (omega arith) a in
-          on-no-day-test (sym b ∙ c)
-        where
-          on-no-day-test : true ≡ false → offRun w d ≤ 14
-          on-no-day-test e = let z : _≡_ {A = ℕ} 0 1 = cc in absurd (omega arith)
+          differ (sym c ∙ b)
       go (no u) = omega arith

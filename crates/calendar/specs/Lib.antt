@@ -5,3 +5,5 @@ pub mod MonthLaws
 pub mod Listing
 pub mod Choosing
 pub mod ChoosingLaws
+pub mod ListingLaws
+pub mod Examples

@@ -1,8 +1,9 @@
 -- What follows for months: codes, lengths, and that settlement days rise.
 use mathlib.Core.Path.{_≡_, refl, sym, ap, _∙_}
 use mathlib.Core.Bool.{Bool, true, false, _&&_}
-use Prim.Native.Nat.{ℕ, zero, suc, _+_, _-_, _*_, _/_, _%_, _≤_, _<_}
+use Prim.Native.Nat.{ℕ, zero, suc, _+_, _-_, _*_, _/_, _%_, _≤_, _<_, min}
 use native.Mathlib.Numerals.{add-one}
+use native.Mathlib.Decide.{decLt}
 use native.Mathlib.Omega.{arith}
 use lib.Dec.{eqb, leb, ltb}
 use borrow.Author.Tests.{ltb-true, leb-true, lt-ltb, le-ltb, le-leb}
@@ -12,9 +13,9 @@ use Rattle.calendar.specs.declared.day.Day.the-variants.{On, NoDay}
 use Rattle.calendar.specs.declared.month.Month.{Month}
 use Rattle.calendar.specs.declared.month.Coded.{Coded}
 use Rattle.calendar.specs.declared.month.Coded.the-variants.{Is, NoMonth}
-use Rattle.calendar.specs.Days.{days, firstWorking, nextWorking, lastWorking, workingBefore, accepted}
-use Rattle.calendar.specs.DayLaws.{on-no-day, next-none, first-works, first-within, first-skips, first-misses, first-is, last-works, last-skips, offRun, run-off, accepted-run, all-off-run}
-use Rattle.calendar.specs.Months.{isCode, monthOf, codeOf, isShort, monthLength, firstDay, thirdWednesday, settlementDay, lastTradingDay}
+use Rattle.calendar.specs.Days.{nextWorking, lastWorking, accepted}
+use Rattle.calendar.specs.DayLaws.{on-no-day, next-none, first-works, first-within, first-skips, first-misses, first-is, last-works, last-skips, accepted-run, all-off-run}
+use Rattle.calendar.specs.Months.{isCode, monthOf, codeOf, isShort, monthLength, firstDay, thirdWednesday, settlementDay, beforeThat, lastTradingDay}
 
 -- ---- codes
 
@@ -101,3 +102,93 @@ module _ (w : ℕ → Bool) (m : ℕ) where
 
   pub settle-past : 360 ≤ m → settlementDay w m ≡ NoDay
   settle-past h = settle-in (omega arith) ∙ next-none w (thirdWednesday m) (past-end m h)
+
+-- ---- settlement days rise
+
+-- third Wednesdays are at least 28 days apart
+pub apart : (m n : ℕ) → 240 ≤ m → thirdWednesday m + 28 * n ≤ thirdWednesday (m + n)
+unfolding thirdWednesday
+apart m n h = let z : m - 240 + n ≡ m + n - 240 = omega arith in omega (arith, first-rises (m - 240) n, ap firstDay z)
+
+november : thirdWednesday 358 ≡ 3612
+unfolding thirdWednesday firstDay monthLength
+november = refl
+
+module _ (w : ℕ → Bool) where
+  -- a month with a settlement day is one of the calendar
+  pub settles-from : (m d : ℕ) → settlementDay w m ≡ On d → 240 ≤ m
+  settles-from m d e = go (decLt m 240)
+    where
+      go : Dec (m < 240) → 240 ≤ m
+      go (yes u) = on-no-day (sym e ∙ settle-before w m u)
+      go (no u) = omega arith
+
+  pub settles-first : (m d : ℕ) → settlementDay w m ≡ On d → nextWorking w (thirdWednesday m) ≡ On d
+  settles-first m d e = sym (settle-in w m (settles-from m d e)) ∙ e
+
+  pub settles-within : (m d : ℕ) → settlementDay w m ≡ On d → (thirdWednesday m ≤ d) × (d < 3653)
+  settles-within m d e = let r = first-within w _ _ d (settles-first m d e) in (r .0, omega (arith, r))
+
+  pub settles-works : (m d : ℕ) → settlementDay w m ≡ On d → w d ≡ true
+  settles-works m d e = first-works w _ _ d (settles-first m d e)
+
+  module _ (accept : accepted w ≡ true) where
+    -- D is at most 14 days after the third Wednesday
+    pub settles-near : (m d : ℕ) → settlementDay w m ≡ On d → d ≤ thirdWednesday m + 14
+    settles-near m d e = go (decLt (thirdWednesday m + 14) d)
+      where
+        go : Dec (thirdWednesday m + 14 < d) → d ≤ thirdWednesday m + 14
+        go (yes u) =
+            let within = settles-within m d e in
+            let off = all-off-run w 15 (thirdWednesday m) (λ k a b. first-skips w _ _ d (settles-first m d e) k a (omega arith)) in
+            absurd (omega (arith, accepted-run w (thirdWednesday m + 15) accept (omega (arith, within))))
+        go (no u) = omega arith
+
+    pub settles-rise : (m n d e : ℕ) → m < n → settlementDay w m ≡ On d → settlementDay w n ≡ On e → d < e
+    settles-rise m n d e h p q =
+        let z : m + (n - m) ≡ n = omega arith in
+        omega (arith, settles-near m d p, settles-within n e q, apart m (n - m) (settles-from m d p), ap thirdWednesday z)
+
+    -- each month of the calendar but the last has its D
+    pub all-settle : (m : ℕ) → 240 ≤ m → m < 359 → settlementDay w m ≡ NoDay → ⊥
+    all-settle m h k e =
+        let z : m + (358 - m) ≡ 358 = omega arith in
+        let early : thirdWednesday m + 14 < 3653 = omega (arith, apart m (358 - m) h, ap thirdWednesday z, november) in
+        let off = all-off-run w 15 (thirdWednesday m) (λ i a b. first-misses w _ _ (sym (settle-in w m h) ∙ e) i a (omega arith)) in
+        omega (arith, accepted-run w (thirdWednesday m + 15) accept (omega arith))
+
+  -- ---- the last trading day
+
+  pub trades-before : (m d : ℕ) → settlementDay w m ≡ On d → lastTradingDay w m ≡ lastWorking w d
+  unfolding lastTradingDay
+  trades-before m d e = let z : min d 3653 ≡ d = omega (arith, settles-within m d e) in rw (e, z)
+
+  pub trades-settles : (m l : ℕ) → lastTradingDay w m ≡ On l → (d : ℕ) × (settlementDay w m ≡ On d)
+  unfolding lastTradingDay
+  trades-settles m l e = go (settlementDay w m) refl e
+    where
+      go : (a : Day) → settlementDay w m ≡ a → beforeThat w a ≡ On l → (d : ℕ) × (settlementDay w m ≡ On d)
+      go (On d) p q = (d, p)
+      go NoDay p q = on-no-day (sym q)
+
+  -- the working day after the last trading day is D
+  pub trades-next : (m l : ℕ) → lastTradingDay w m ≡ On l → settlementDay w m ≡ nextWorking w (l + 1)
+  trades-next m l e =
+      let s = trades-settles m l e in
+      let d = s .0 in
+      let p : settlementDay w m ≡ On d = s .1 in
+      let q : lastWorking w d ≡ On l = sym (trades-before m d p) ∙ e in
+      let b = last-works w d l q in
+      p ∙ sym (first-is w _ (l + 1) d (omega (arith, b .0)) (omega (arith, settles-within m d p, b .0)) (settles-works m d p) (λ k x y. last-skips w d l q k (omega arith) y))
+
+  -- no two months end on one day
+  pub one-ends : accepted w ≡ true → (m n l : ℕ) → lastTradingDay w m ≡ On l → lastTradingDay w n ≡ On l → m ≡ n
+  one-ends accept m n l p q = go (decLt m n) (decLt n m)
+    where
+      same : settlementDay w m ≡ settlementDay w n
+      same = trades-next m l p ∙ sym (trades-next n l q)
+
+      go : Dec (m < n) → Dec (n < m) → m ≡ n
+      go (yes u) v = let s = trades-settles m l p in absurd (omega (arith, settles-rise accept m n (s .0) (s .0) u (s .1) (sym same ∙ s .1)))
+      go (no u) (yes v) = let s = trades-settles m l p in absurd (omega (arith, settles-rise accept n m (s .0) (s .0) v (sym same ∙ s .1) (s .1)))
+      go (no u) (no v) = omega arith

@@ -47,6 +47,7 @@ module _ (p : ℕ → Bool) where
 
   pub count-past : (n k : ℕ) → n < k → p n ≡ true → length (passing p n) < length (passing p k)
   count-past n k h e = let z : n + 1 + (k - (n + 1)) ≡ k = omega arith in omega (arith, count-hit p n e, ap (λ i. length (passing p i)) z, count-grows (n + 1) (k - (n + 1)))
+
   pub passing-none : (n : ℕ) → ((k : ℕ) → k < n → p k ≡ false) → passing p n ≡ []
   unfolding passing
   passing-none zero h = refl
