@@ -6,10 +6,10 @@ use lib.Dec.{ltb}
 use lib.ListN.{length, replicate, set}
 use Rattle.lists.specs.Choice.{pick}
 use Rattle.lists.specs.Passing.{passing, all}
-use Rattle.calendar.specs.declared.day.Day.{Day}
+use Rattle.days.specs.declared.Day.{Day}
 use Rattle.calendar.specs.declared.listing.Chosen.{Chosen}
 use Rattle.calendar.specs.declared.listing.Listing.{Listing}
-use Rattle.calendar.specs.Days.{isNoDay}
+use Rattle.days.specs.Days.{isNoDay}
 use Rattle.calendar.specs.Months.{isQuarterly, codeOf}
 use Rattle.calendar.specs.Listing.{isAfter, places, earlier, isListed, settles, unknown}
 

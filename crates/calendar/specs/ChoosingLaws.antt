@@ -13,11 +13,11 @@ use borrow.Author.Tests.{ltb-true, lt-ltb, le-ltb, le-leb, lt-leb}
 use Rattle.lists.specs.Choice.{pick}
 use Rattle.lists.specs.Passing.{passing, all, passing-hit, passing-miss, passing-none, passing-ends, count-hit, count-step, count-grows, all-append, all-passing}
 use Rattle.lists.specs.Rows.{map-append}
-use Rattle.calendar.specs.declared.day.Day.{Day}
+use Rattle.days.specs.declared.Day.{Day}
 use Rattle.calendar.specs.declared.listing.Chosen.{Chosen}
 use Rattle.calendar.specs.declared.listing.Listing.{Listing}
-use Rattle.calendar.specs.Days.{isNoDay}
-use Rattle.calendar.specs.DayLaws.{differ}
+use Rattle.days.specs.Days.{isNoDay}
+use Rattle.days.specs.DayLaws.{differ}
 use Rattle.calendar.specs.Months.{isQuarterly, codeOf, settlementDay}
 use Rattle.calendar.specs.MonthLaws.{settle-past}
 use Rattle.calendar.specs.Listing.{isAfter, settlesAfter, isCandidate, places, earlier, isListed, settles, listedMonths, unknown, listing}

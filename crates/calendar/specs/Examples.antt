@@ -4,9 +4,9 @@ use mathlib.Core.Bool.{Bool, true}
 use mathlib.Core.List.{[], _∷_}
 use Prim.Native.Nat.{ℕ}
 use native.Mathlib.Omega.{arith}
-use Rattle.calendar.specs.declared.day.Day.the-variants.{On}
+use Rattle.days.specs.declared.Day.the-variants.{On}
 use Rattle.calendar.specs.declared.listing.Listing.{Listing}
-use Rattle.calendar.specs.Days.{isWeekend, isException, isWorking, firstWorking, lastWorking}
+use Rattle.days.specs.Days.{isWeekend, isException, isWorking, firstWorking, lastWorking}
 use Rattle.calendar.specs.Months.{isCode, monthOf, codeOf, monthLength, firstDay, thirdWednesday, settlementDay, lastTradingDay, settlementOf, lastTradingOf}
 use Rattle.calendar.specs.Listing.{listing}
 use Rattle.calendar.specs.Choosing.{considered}

@@ -1,5 +1,3 @@
-pub mod Days
-pub mod DayLaws
 pub mod Months
 pub mod MonthLaws
 pub mod Listing

@@ -6,10 +6,10 @@ use lib.Dec.{leb, ltb}
 use lib.ListN.{length, replicate}
 use Rattle.lists.specs.Choice.{pick}
 use Rattle.lists.specs.Passing.{passing, all}
-use Rattle.calendar.specs.declared.day.Day.{Day}
-use Rattle.calendar.specs.declared.day.Day.the-variants.{On, NoDay}
+use Rattle.days.specs.declared.Day.{Day}
+use Rattle.days.specs.declared.Day.the-variants.{On, NoDay}
 use Rattle.calendar.specs.declared.listing.Listing.{Listing}
-use Rattle.calendar.specs.Days.{isNoDay}
+use Rattle.days.specs.Days.{isNoDay}
 use Rattle.calendar.specs.Months.{months, january2020, isQuarterly, codeOf, settlementDay}
 
 -- "with D after t .. a D past the calendar's end counts as after every t"

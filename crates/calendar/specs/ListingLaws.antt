@@ -12,11 +12,11 @@ use borrow.Author.Tests.{ltb-true, lt-ltb, le-ltb}
 use Rattle.lists.specs.Choice.{pick}
 use Rattle.lists.specs.Passing.{passing, all, passing-hit, passing-miss, passing-none, count-hit, count-past, count-more, all-append, all-passing, and-both}
 use Rattle.lists.specs.Rows.{map-append}
-use Rattle.calendar.specs.declared.day.Day.{Day}
-use Rattle.calendar.specs.declared.day.Day.the-variants.{On, NoDay}
+use Rattle.days.specs.declared.Day.{Day}
+use Rattle.days.specs.declared.Day.the-variants.{On, NoDay}
 use Rattle.calendar.specs.declared.listing.Listing.{Listing}
-use Rattle.calendar.specs.Days.{rising, risingAfter}
-use Rattle.calendar.specs.DayLaws.{differ, last-finds, last-works}
+use Rattle.days.specs.Days.{rising, risingAfter}
+use Rattle.days.specs.DayLaws.{differ, last-finds, last-works}
 use Rattle.calendar.specs.Months.{isQuarterly, codeOf, settlementDay, lastTradingDay}
 use Rattle.calendar.specs.MonthLaws.{codes-rise, trades-before}
 use Rattle.calendar.specs.Listing.{isAfter, settlesAfter, isCandidate, places, earlier, isListed, settles, listedMonths, unknown, listing}

@@ -8,13 +8,13 @@ use native.Mathlib.Omega.{arith}
 use lib.Dec.{eqb, leb, ltb}
 use borrow.Author.Tests.{ltb-true, leb-true, lt-ltb, le-ltb, le-leb}
 use Rattle.lists.specs.Choice.{pick}
-use Rattle.calendar.specs.declared.day.Day.{Day}
-use Rattle.calendar.specs.declared.day.Day.the-variants.{On, NoDay}
+use Rattle.days.specs.declared.Day.{Day}
+use Rattle.days.specs.declared.Day.the-variants.{On, NoDay}
 use Rattle.calendar.specs.declared.month.Month.{Month}
 use Rattle.calendar.specs.declared.month.Coded.{Coded}
 use Rattle.calendar.specs.declared.month.Coded.the-variants.{Is, NoMonth}
-use Rattle.calendar.specs.Days.{nextWorking, lastWorking, accepted}
-use Rattle.calendar.specs.DayLaws.{on-no-day, next-none, first-works, first-within, first-skips, first-misses, first-is, last-works, last-skips, accepted-run, all-off-run}
+use Rattle.days.specs.Days.{nextWorking, lastWorking, accepted}
+use Rattle.days.specs.DayLaws.{on-no-day, next-none, first-works, first-within, first-skips, first-misses, first-is, last-works, last-skips, accepted-run, all-off-run}
 use Rattle.calendar.specs.Months.{isCode, monthOf, codeOf, isShort, monthLength, firstDay, thirdWednesday, settlementDay, beforeThat, lastTradingDay}
 
 -- ---- codes

@@ -3,12 +3,12 @@ use mathlib.Core.Bool.{Bool, _&&_, _||_}
 use Prim.Native.Nat.{ℕ, zero, suc, _+_, _-_, _*_, _/_, _%_}
 use lib.Dec.{eqb, leb, ltb}
 use Rattle.lists.specs.Choice.{pick}
-use Rattle.calendar.specs.declared.day.Day.{Day}
-use Rattle.calendar.specs.declared.day.Day.the-variants.{On, NoDay}
+use Rattle.days.specs.declared.Day.{Day}
+use Rattle.days.specs.declared.Day.the-variants.{On, NoDay}
 use Rattle.calendar.specs.declared.month.Month.{Month}
 use Rattle.calendar.specs.declared.month.Coded.{Coded}
 use Rattle.calendar.specs.declared.month.Coded.the-variants.{Is, NoMonth}
-use Rattle.calendar.specs.Days.{nextWorking, workingBefore}
+use Rattle.days.specs.Days.{nextWorking, workingBefore}
 
 -- "Code YYMM is the month": a year of two digits and a month from 01 to 12
 unfoldable pub isCode : ℕ → Bool

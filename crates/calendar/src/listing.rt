@@ -2,11 +2,11 @@
 ghost use mathlib.Core.Path.{_≡_};
 ghost use mathlib.Core.Bool.{true, false, not};
 ghost use Prim.Native.Nat.{_+_, _≤_, _<_};
-ghost use Rattle.calendar.specs.Days.{rising, isWorking, isNoDay};
+ghost use Rattle.days.specs.Days.{rising, isWorking, isNoDay};
 ghost use Rattle.calendar.specs.Listing.{isAfter, listing, unknown};
 ghost use Rattle.calendar.specs.Choosing.{noneChosen, hasPlace, placed, considered, answered};
-use crate::day::Day;
 use crate::month::Month;
+use days::Day;
 
 // The six codes in rising order. `known` is false where a listed month's settlement day is not in the calendar; then
 // all codes are 0.

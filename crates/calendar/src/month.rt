@@ -2,11 +2,11 @@
 ghost use mathlib.Core.Path.{_≡_};
 ghost use mathlib.Core.Bool.{true};
 ghost use Prim.Native.Nat.{_+_, _-_, _≤_, _<_};
-ghost use Rattle.calendar.specs.Days.{rising, isWorking};
+ghost use Rattle.days.specs.Days.{rising, isWorking};
 ghost use Rattle.calendar.specs.Months.{monthOf, codeOf, isQuarterly, firstDay, thirdWednesday, settlementDay, lastTradingDay, settlementOf, lastTradingOf};
-use crate::day::Day;
-use crate::day::next_working;
-use crate::day::working_before;
+use days::Day;
+use days::next_working;
+use days::working_before;
 
 // A month, counted from January 2000 on.
 pub struct Month {
@@ -25,7 +25,7 @@ impl Month {
 
     pub const LAST: u32 = 359;
 
-    // The first day of each month from January 2020 on, a year to a row.
+    // The first day of each month from January 2020 on.
     const FIRST_DAYS: [u64; 120] = [
         0,
         31,

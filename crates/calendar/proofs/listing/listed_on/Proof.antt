@@ -1,6 +1,6 @@
 use mathlib.Core.Path.{_≡_, refl, sym, ap, _∙_}
 use Prim.Native.Nat.{_+_, _-_, _≤_}
-use Rattle.calendar.specs.Days.{isWorking}
+use Rattle.days.specs.Days.{isWorking}
 use Rattle.calendar.specs.Choosing.{considered, answered, chosenBefore}
 use Rattle.calendar.specs.ChoosingLaws.{chosen-none, chosen-next, chosen-most, full-listing, short-listing}
 use native.Mathlib.Omega.{arith}

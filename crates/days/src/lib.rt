@@ -1,8 +1,11 @@
-// Days: exceptions, working days, the working day next to a day, and the calendar as a whole.
+// Days of document 01's calendar: exceptions, which days are working, the working day next to a day, and whether the
+// calendar is accepted. Days are counted from 2020-01-01, day 0 and a Wednesday, to 2029-12-31, day 3,652.
+//
+// Exceptions are lent as a slice of days that rise. A caller tests that once, by `are_rising`.
 ghost use mathlib.Core.Path.{_≡_};
 ghost use mathlib.Core.Bool.{true};
 ghost use Prim.Native.Nat.{min};
-ghost use Rattle.calendar.specs.Days.{isWeekend, isException, rising, isWorking, nextWorking, workingBefore, accepted};
+ghost use Rattle.days.specs.Days.{isWeekend, isException, rising, isWorking, nextWorking, workingBefore, accepted};
 
 // A day of the calendar, or that there is none.
 pub enum Day {
@@ -95,11 +98,11 @@ pub fn working_before(exceptions: &[u64], day: u64) -> Day
     requires { ⌜ rising (now exceptions) ≡ true ⌝ }
     ensures { λ r. ⌜ r ≡ workingBefore (isWorking (now (exceptions .entry))) day ⌝ }
 {
-    let mut d = at_most_end(day);
-    while 0 < d {
-        d -= 1;
-        if is_working(exceptions, d) {
-            return Day::On(d);
+    let mut earlier = at_most_end(day);
+    while 0 < earlier {
+        earlier -= 1;
+        if is_working(exceptions, earlier) {
+            return Day::On(earlier);
         }
     }
     Day::NoDay
@@ -111,9 +114,9 @@ pub fn is_accepted(exceptions: &[u64]) -> bool
     ensures { λ r. ⌜ r ≡ accepted (isWorking (now (exceptions .entry))) ⌝ }
 {
     let mut run: u64 = 0;
-    let mut d: u64 = 0;
-    while d < 3653 {
-        if is_working(exceptions, d) {
+    let mut counted: u64 = 0;
+    while counted < 3653 {
+        if is_working(exceptions, counted) {
             run = 0;
         } else {
             run += 1;
@@ -121,7 +124,7 @@ pub fn is_accepted(exceptions: &[u64]) -> bool
         if 14 < run {
             return false;
         }
-        d += 1;
+        counted += 1;
     }
     true
 }

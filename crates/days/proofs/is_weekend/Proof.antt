@@ -1,7 +1,7 @@
 use borrow.Author.Tests.{eq-eqb, ne-eqb}
-use Rattle.calendar.specs.Days.{isWeekend}
-use Rattle.calendar.proofs.day.is_weekend.Statement.{statement}
-use Rattle.calendar.proofs.day.is_weekend.Tie as tie
+use Rattle.days.specs.Days.{isWeekend}
+use Rattle.days.proofs.is_weekend.Statement.{statement}
+use Rattle.days.proofs.is_weekend.Tie as tie
 
 returns : tie.Need-returns
 unfolding isWeekend

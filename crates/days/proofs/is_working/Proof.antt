@@ -1,8 +1,8 @@
 use mathlib.Core.Path.{sym, _∙_}
-use Rattle.calendar.specs.Days.{isWorking}
+use Rattle.days.specs.Days.{isWorking}
 use borrow.Author.Needs.{needs}
-use Rattle.calendar.proofs.day.is_working.Statement.{statement}
-use Rattle.calendar.proofs.day.is_working.Tie as tie
+use Rattle.days.proofs.is_working.Statement.{statement}
+use Rattle.days.proofs.is_working.Tie as tie
 
 is-weekend-requires : tie.Need-is-weekend-requires
 is-weekend-requires c κs = search needs

@@ -11,9 +11,9 @@ use lib.ListN.{length, getD, drop, drop-of-length-le}
 use lib.Seq.{drop-cons}
 use borrow.Author.Tests.{lt-ltb, le-ltb, eq-eqb, ne-eqb}
 use Rattle.lists.specs.Choice.{pick}
-use Rattle.calendar.specs.declared.day.Day.{Day}
-use Rattle.calendar.specs.declared.day.Day.the-variants.{On, NoDay}
-use Rattle.calendar.specs.Days.{days, isException, rising, risingAfter, firstWorking, nextWorking, lastWorking, isNoDay, isLongBreak, noLongBreak, accepted}
+use Rattle.days.specs.declared.Day.{Day}
+use Rattle.days.specs.declared.Day.the-variants.{On, NoDay}
+use Rattle.days.specs.Days.{days, isException, rising, risingAfter, firstWorking, nextWorking, lastWorking, isNoDay, isLongBreak, noLongBreak, accepted}
 
 -- ---- exceptions, walked from the front: what is left decides
 

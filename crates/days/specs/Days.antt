@@ -4,8 +4,8 @@ use mathlib.Core.List.{List, [], _∷_}
 use Prim.Native.Nat.{ℕ, zero, suc, _+_, _-_, _%_, min}
 use lib.Dec.{eqb, ltb}
 use Rattle.lists.specs.Choice.{pick}
-use Rattle.calendar.specs.declared.day.Day.{Day}
-use Rattle.calendar.specs.declared.day.Day.the-variants.{On, NoDay}
+use Rattle.days.specs.declared.Day.{Day}
+use Rattle.days.specs.declared.Day.the-variants.{On, NoDay}
 
 -- "Day 0 is Wednesday 2020-01-01; day 3,652 is 2029-12-31."
 abbrev pub days : ℕ

@@ -1,17 +1,17 @@
 use mathlib.Core.Path.{_≡_, refl, sym, ap, _∙_}
 use Prim.Native.Nat.{_-_}
-use Rattle.calendar.specs.Days.{isWorking, lastWorking, workingBefore}
-use Rattle.calendar.specs.DayLaws.{last-hit, last-miss, last-none}
+use Rattle.days.specs.Days.{isWorking, lastWorking, workingBefore}
+use Rattle.days.specs.DayLaws.{last-hit, last-miss, last-none}
 use native.Mathlib.Omega.{arith}
 use borrow.Author.Needs.{needs}
-use Rattle.calendar.proofs.day.working_before.Statement.{statement}
-use Rattle.calendar.proofs.day.working_before.Tie as tie
+use Rattle.days.proofs.working_before.Statement.{statement}
+use Rattle.days.proofs.working_before.Tie as tie
 
 abbrev Inv-loop : tie.InvT-loop
-Inv-loop exceptions day d₀ d = workingBefore (isWorking exceptions) day ≡ lastWorking (isWorking exceptions) d
+Inv-loop exceptions day earlier₀ earlier = workingBefore (isWorking exceptions) day ≡ lastWorking (isWorking exceptions) earlier
 
 abbrev μ-loop : tie.MeasureT-loop
-μ-loop exceptions day d₀ d = d
+μ-loop exceptions day earlier₀ earlier = earlier
 
 at-most-end-requires : tie.Need-at-most-end-requires Inv-loop μ-loop
 at-most-end-requires c κs = search needs
@@ -19,8 +19,8 @@ at-most-end-requires c κs = search needs
 loop-holds : tie.Need-loop-holds Inv-loop μ-loop
 loop-holds c = sym (ap (lastWorking _) (c .at-most-end .ensures))
 
-sub-d : tie.Need-sub-d Inv-loop μ-loop
-sub-d c = omega arith
+sub-earlier : tie.Need-sub-earlier Inv-loop μ-loop
+sub-earlier c = omega arith
 
 is-working-requires : tie.Need-is-working-requires Inv-loop μ-loop
 is-working-requires c κs = search needs
@@ -45,7 +45,7 @@ working-before-spec =
     μ-loop
     at-most-end-requires
     loop-holds
-    sub-d
+    sub-earlier
     is-working-requires
     returns
     loop-less

@@ -1,11 +1,11 @@
 use mathlib.Core.Path.{_≡_, sym, _∙_}
 use Prim.Native.Nat.{_+_, _-_, _≤_}
 use lib.ListN.{length, drop}
-use Rattle.calendar.specs.Days.{rising, risingAfter}
-use Rattle.calendar.specs.DayLaws.{rising-start, rising-more, rising-stop, rising-end, rising-empty}
+use Rattle.days.specs.Days.{rising, risingAfter}
+use Rattle.days.specs.DayLaws.{rising-start, rising-more, rising-stop, rising-end, rising-empty}
 use native.Mathlib.Omega.{arith}
-use Rattle.calendar.proofs.day.are_rising.Statement.{statement}
-use Rattle.calendar.proofs.day.are_rising.Tie as tie
+use Rattle.days.proofs.are_rising.Statement.{statement}
+use Rattle.days.proofs.are_rising.Tie as tie
 
 abbrev Inv-loop : tie.InvT-loop
 Inv-loop exceptions last₀ i₀ last i = (i ≤ length exceptions) × (rising exceptions ≡ risingAfter last (drop i exceptions))
@@ -29,7 +29,10 @@ shared-slice-read-next : tie.Need-shared-slice-read-next Inv-loop μ-loop
 shared-slice-read-next c = omega arith
 
 returns-2 : tie.Need-returns-2 Inv-loop μ-loop
-returns-2 c = sym (c .before .before .before .loop .inv .1 ∙ rising-stop _ _ _ (c .before .before .loop-test .taken) (c .if2 .taken))
+returns-2 c =
+    let l = c .before .before .before .loop in
+    let e = c .before .before .before .before .before .before .args .exceptions .now in
+    sym (l .inv .1 ∙ rising-stop (l .last) e (l .i) (c .before .before .loop-test .taken) (omega arith))
 
 add-i : tie.Need-add-i Inv-loop μ-loop
 add-i c = omega arith

@@ -3,11 +3,11 @@ use mathlib.Core.Bool.{_||_}
 use mathlib.Core.Logic.{⊎-elim}
 use Prim.Native.Nat.{_+_, _-_, _≤_}
 use lib.ListN.{length, drop}
-use Rattle.calendar.specs.Days.{isException}
-use Rattle.calendar.specs.DayLaws.{exception-hit, exception-miss, exception-end, or-true, or-false}
+use Rattle.days.specs.Days.{isException}
+use Rattle.days.specs.DayLaws.{exception-hit, exception-miss, exception-end, or-true, or-false}
 use native.Mathlib.Omega.{arith}
-use Rattle.calendar.proofs.day.is_exception.Statement.{statement}
-use Rattle.calendar.proofs.day.is_exception.Tie as tie
+use Rattle.days.proofs.is_exception.Statement.{statement}
+use Rattle.days.proofs.is_exception.Tie as tie
 
 abbrev Inv-loop : tie.InvT-loop
 Inv-loop exceptions day found₀ i₀ found i = (i ≤ length exceptions) × (isException exceptions day ≡ found || isException (drop i exceptions) day)

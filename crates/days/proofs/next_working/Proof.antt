@@ -1,11 +1,11 @@
 use mathlib.Core.Path.{_≡_, refl, sym, _∙_}
 use Prim.Native.Nat.{_+_, _-_}
-use Rattle.calendar.specs.Days.{isWorking, nextWorking}
-use Rattle.calendar.specs.DayLaws.{next-hit, next-miss, next-none}
+use Rattle.days.specs.Days.{isWorking, nextWorking}
+use Rattle.days.specs.DayLaws.{next-hit, next-miss, next-none}
 use native.Mathlib.Omega.{arith}
 use borrow.Author.Needs.{needs}
-use Rattle.calendar.proofs.day.next_working.Statement.{statement}
-use Rattle.calendar.proofs.day.next_working.Tie as tie
+use Rattle.days.proofs.next_working.Statement.{statement}
+use Rattle.days.proofs.next_working.Tie as tie
 
 abbrev Inv-loop : tie.InvT-loop
 Inv-loop exceptions day d₀ d = nextWorking (isWorking exceptions) day ≡ nextWorking (isWorking exceptions) d
