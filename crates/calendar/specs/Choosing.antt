@@ -1,10 +1,9 @@
 -- How the code chooses the listed months one by one: what each of its steps gives. No promise rests on these definitions; ListingLaws shows that they lead to what is listed.
-use mathlib.Core.Bool.{Bool, true, false, _&&_, not}
+use mathlib.Core.Bool.{Bool, true, false, _&&_, not, cond}
 use mathlib.Core.List.{List, map, _++_}
 use Prim.Native.Nat.{ℕ, _+_, _-_, min}
 use lib.Dec.{ltb}
 use lib.ListN.{length, replicate, set}
-use Rattle.lists.specs.Choice.{pick}
 use Rattle.lists.specs.Passing.{passing, all}
 use Rattle.days.specs.declared.Day.{Day}
 use Rattle.calendar.specs.declared.listing.Chosen.{Chosen}
@@ -25,10 +24,10 @@ placed c true code known = record { quarterly = c .quarterly + 1; others = c .ot
 placed c false code known = record { quarterly = c .quarterly; others = c .others + 1; known = c .known && known; codes = set (c .codes) (c .quarterly + c .others) code }
 
 unfoldable pub considered : Chosen → ℕ → Day → ℕ → Chosen
-considered c m day t = pick (isAfter t day) (pick (hasPlace c (isQuarterly m)) (placed c (isQuarterly m) (codeOf m) (not (isNoDay day))) c) c
+considered c m day t = cond (isAfter t day) (cond (hasPlace c (isQuarterly m)) (placed c (isQuarterly m) (codeOf m) (not (isNoDay day))) c) c
 
 abbrev pub answered : Chosen → Listing
-answered c = pick (c .known) (record { known = true; codes = c .codes }) unknown
+answered c = cond (c .known) (record { known = true; codes = c .codes }) unknown
 
 -- six places, the free ones 0
 abbrev pub filled : List ℕ → List ℕ

@@ -1,23 +1,19 @@
 -- Choosing the months one by one ends in what is listed.
 use mathlib.Core.Path.{_≡_, refl, sym, ap, _∙_}
-use mathlib.Core.Bool.{Bool, true, false, _&&_, not}
-use mathlib.Core.List.{List, [], _∷_, _++_, map, append-nil, append-assoc}
+use mathlib.Core.Bool.{Bool, true, false, _&&_, not, cond, false≢true, and-true, and-false}
+use mathlib.Core.List.{List, [], _∷_, _++_, map, append-nil}
 use Prim.Native.Nat.{ℕ, zero, suc, _+_, _-_, _≤_, _<_, min}
 use native.Mathlib.Numerals.{add-one}
 use native.Mathlib.Decide.{decLt}
 use native.Mathlib.Omega.{arith}
-use lib.Dec.{ltb, leb}
+use lib.Dec.{ltb}
 use lib.ListN.{length, set, replicate, length-append, length-map}
 use lib.Seq.{set-at, append-snoc}
 use borrow.Author.Tests.{ltb-true, lt-ltb, le-ltb, le-leb, lt-leb}
-use Rattle.lists.specs.Choice.{pick}
 use Rattle.lists.specs.Passing.{passing, all, passing-hit, passing-miss, passing-none, passing-ends, count-hit, count-step, count-grows, all-append, all-passing}
 use Rattle.lists.specs.Rows.{map-append}
-use Rattle.days.specs.declared.Day.{Day}
 use Rattle.calendar.specs.declared.listing.Chosen.{Chosen}
-use Rattle.calendar.specs.declared.listing.Listing.{Listing}
 use Rattle.days.specs.Days.{isNoDay}
-use Rattle.days.specs.DayLaws.{differ}
 use Rattle.calendar.specs.Months.{isQuarterly, codeOf, settlementDay}
 use Rattle.calendar.specs.MonthLaws.{settle-past}
 use Rattle.calendar.specs.Listing.{isAfter, settlesAfter, isCandidate, places, earlier, isListed, settles, listedMonths, unknown, listing}
@@ -27,14 +23,6 @@ use Rattle.calendar.specs.Choosing.{noneChosen, hasPlace, placed, consid
 pub place-left : (c : Chosen) (quarterly : Bool) → c .quarterly ≤ 4 → c .others ≤ 2 → hasPlace c quarterly ≡ true → c .quarterly + c .others < 6
 place-left c true h k e = omega (arith, ltb-true (c .quarterly) 4 e)
 place-left c false h k e = omega (arith, ltb-true (c .others) 2 e)
-
-and-false : (t : Bool) → t && false ≡ false
-and-false true = refl
-and-false false = refl
-
-and-true : (t : Bool) → t && true ≡ t
-and-true true = refl
-and-true false = refl
 
 -- two that agree in each field
 same : {q q′ o o′ : ℕ} {k k′ : Bool} {c c′ : List ℕ} → q ≡ q′ → o ≡ o′ → k ≡ k′ → c ≡ c′ → _≡_ {A = Chosen} (record { quarterly = q; others = o; known = k; codes = c }) (record { quarterly = q′; others = o′; known = k′; codes = c′ })
@@ -70,7 +58,7 @@ module _ (w : ℕ → Bool) (t : ℕ) where
       rw (sym (add-one m), count-step (isListed w t) m, count-step (isCandidate w t true) m, count-step (isCandidate w t false) m)
       (go (settlesAfter w t m) (isQuarterly m) (listed-count m) (decLt (earlier w t true m) 4) (decLt (earlier w t false m) 2))
     where
-      go : (a q : Bool) → length (passing (isListed w t) m) ≡ min 4 (earlier w t true m) + min 2 (earlier w t false m) → Dec (earlier w t true m < 4) → Dec (earlier w t false m < 2) → length (passing (isListed w t) m) + pick (a && ltb (earlier w t q m) (places q)) 1 0 ≡ min 4 (earlier w t true m + pick (q && a) 1 0) + min 2 (earlier w t false m + pick (not q && a) 1 0)
+      go : (a q : Bool) → length (passing (isListed w t) m) ≡ min 4 (earlier w t true m) + min 2 (earlier w t false m) → Dec (earlier w t true m < 4) → Dec (earlier w t false m < 2) → length (passing (isListed w t) m) + cond (a && ltb (earlier w t q m) (places q)) 1 0 ≡ min 4 (earlier w t true m + cond (q && a) 1 0) + min 2 (earlier w t false m + cond (not q && a) 1 0)
       go true true ih (yes u) v = rw (lt-ltb (earlier w t true m) 4 u) (omega arith)
       go true true ih (no u) v = rw (le-ltb (earlier w t true m) 4 (omega arith)) (omega arith)
       go true false ih u (yes v) = rw (lt-ltb (earlier w t false m) 2 v) (omega arith)
@@ -143,7 +131,7 @@ module _ (w : ℕ → Bool) (t : ℕ) where
     unfolding considered
     chosen-next h = rw (sym (after-is h), place-is (isQuarterly m)) (go (settlesAfter w t m) refl (isQuarterly m) refl (decLt (earlier w t (isQuarterly m) m) (places (isQuarterly m))))
       where
-        go : (a : Bool) → settlesAfter w t m ≡ a → (q : Bool) → isQuarterly m ≡ q → Dec (earlier w t q m < places q) → pick a (pick (ltb (earlier w t q m) (places q)) (placed (chosenBefore w t m) q (codeOf m) (settles w m)) (chosenBefore w t m)) (chosenBefore w t m) ≡ chosenBefore w t (m + 1)
+        go : (a : Bool) → settlesAfter w t m ≡ a → (q : Bool) → isQuarterly m ≡ q → Dec (earlier w t q m < places q) → cond a (cond (ltb (earlier w t q m) (places q)) (placed (chosenBefore w t m) q (codeOf m) (settles w m)) (chosenBefore w t m)) (chosenBefore w t m) ≡ chosenBefore w t (m + 1)
         go true a q e (yes u) = rw (lt-ltb (earlier w t q m) (places q) u) (chosen-placed q e a u)
         go true a q e (no u) = let k : places q ≤ earlier w t q m = omega arith in rw (le-ltb (earlier w t q m) (places q) k) (chosen-full q e a k)
         go false a q e u = chosen-skip a
@@ -196,8 +184,8 @@ module _ (w : ℕ → Bool) (t : ℕ) where
   unfolding listing
   past-unknown m h k e = go (all (settles w) (listedMonths w t)) refl
     where
-      go : (a : Bool) → all (settles w) (listedMonths w t) ≡ a → pick a (record { known = true; codes = map codeOf (listedMonths w t) }) unknown ≡ unknown
-      go true a = differ (ap (λ d. not (isNoDay d)) (sym (settle-past w m h)) ∙ all-passing (settles w) (isListed w t) 1200 m a k e)
+      go : (a : Bool) → all (settles w) (listedMonths w t) ≡ a → cond a (record { known = true; codes = map codeOf (listedMonths w t) }) unknown ≡ unknown
+      go true a = absurd (false≢true (ap (λ d. not (isNoDay d)) (sym (settle-past w m h)) ∙ all-passing (settles w) (isListed w t) 1200 m a k e))
       go false a = refl
 
   pub short-listing : (chosenBefore w t 360 .quarterly + chosenBefore w t 360 .others ≡ 6 → ⊥) → listing w t ≡ unknown

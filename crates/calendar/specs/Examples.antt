@@ -1,11 +1,10 @@
 -- Document 01's marked examples of the calendar, computed, without exceptions.
-use mathlib.Core.Path.{_≡_, refl, sym, _∙_}
+use mathlib.Core.Path.{_≡_, refl, sym}
 use mathlib.Core.Bool.{Bool, true}
 use mathlib.Core.List.{[], _∷_}
 use Prim.Native.Nat.{ℕ}
 use native.Mathlib.Omega.{arith}
 use Rattle.days.specs.declared.Day.the-variants.{On}
-use Rattle.calendar.specs.declared.listing.Listing.{Listing}
 use Rattle.days.specs.Days.{isWeekend, isException, isWorking, firstWorking, lastWorking}
 use Rattle.calendar.specs.Months.{isCode, monthOf, codeOf, monthLength, firstDay, thirdWednesday, settlementDay, lastTradingDay, settlementOf, lastTradingOf}
 use Rattle.calendar.specs.Listing.{listing}

@@ -1,10 +1,9 @@
 -- What is listed on a day: document 01, 'Calendar and contract months', "Listed on day t".
-use mathlib.Core.Bool.{Bool, true, false, _&&_, not}
+use mathlib.Core.Bool.{Bool, true, false, _&&_, not, cond}
 use mathlib.Core.List.{List, map}
 use Prim.Native.Nat.{ℕ}
 use lib.Dec.{leb, ltb}
 use lib.ListN.{length, replicate}
-use Rattle.lists.specs.Choice.{pick}
 use Rattle.lists.specs.Passing.{passing, all}
 use Rattle.days.specs.declared.Day.{Day}
 use Rattle.days.specs.declared.Day.the-variants.{On, NoDay}
@@ -53,4 +52,4 @@ unknown = record { known = false; codes = replicate 6 0 }
 
 -- the codes of the listed months, if each has its D in the calendar
 unfoldable pub listing : (ℕ → Bool) → ℕ → Listing
-listing w t = pick (all (settles w) (listedMonths w t)) (record { known = true; codes = map codeOf (listedMonths w t) }) unknown
+listing w t = cond (all (settles w) (listedMonths w t)) (record { known = true; codes = map codeOf (listedMonths w t) }) unknown

@@ -1,22 +1,19 @@
 -- What follows for listings: six codes that rise, what is listed stays until it settles, and what has settled is never listed again.
-use mathlib.Core.Path.{_≡_, refl, sym, ap, _∙_}
-use mathlib.Core.Bool.{Bool, true, false, _&&_, not}
+use mathlib.Core.Path.{_≡_, refl, _∙_}
+use mathlib.Core.Bool.{Bool, true, false, not, cond, false≢true}
 use mathlib.Core.List.{List, [], _∷_, _++_, map, append-nil}
-use Prim.Native.Nat.{ℕ, zero, suc, _+_, _≤_, _<_, min}
-use native.Mathlib.Numerals.{add-one}
-use native.Mathlib.Decide.{decLt}
+use Prim.Native.Nat.{ℕ, zero, suc, _+_, _≤_, _<_}
 use native.Mathlib.Omega.{arith}
 use lib.Dec.{ltb, leb}
 use lib.ListN.{length}
-use borrow.Author.Tests.{ltb-true, lt-ltb, le-ltb}
-use Rattle.lists.specs.Choice.{pick}
-use Rattle.lists.specs.Passing.{passing, all, passing-hit, passing-miss, passing-none, count-hit, count-past, count-more, all-append, all-passing, and-both}
+use borrow.Author.Tests.{ltb-true, lt-ltb}
+use Rattle.lists.specs.Passing.{passing, all, count-past, count-more, all-append, all-passing}
+use Rattle.lists.specs.Tests.{and-both}
 use Rattle.lists.specs.Rows.{map-append}
 use Rattle.days.specs.declared.Day.{Day}
 use Rattle.days.specs.declared.Day.the-variants.{On, NoDay}
-use Rattle.calendar.specs.declared.listing.Listing.{Listing}
 use Rattle.days.specs.Days.{rising, risingAfter}
-use Rattle.days.specs.DayLaws.{differ, last-finds, last-works}
+use Rattle.days.specs.DayLaws.{last-finds}
 use Rattle.calendar.specs.Months.{isQuarterly, codeOf, settlementDay, lastTradingDay}
 use Rattle.calendar.specs.MonthLaws.{codes-rise, trades-before}
 use Rattle.calendar.specs.Listing.{isAfter, settlesAfter, isCandidate, places, earlier, isListed, settles, listedMonths, unknown, listing}
@@ -45,7 +42,7 @@ module _ (p : ℕ → Bool) where
   codes-below zero m h = refl
   codes-below (suc n) m h = go (p n) (codes-below n m (omega arith))
     where
-      go : (t : Bool) → all (λ y. ltb y (codeOf m)) (map codeOf (passing p n)) ≡ true → all (λ y. ltb y (codeOf m)) (map codeOf (passing p n ++ pick t (n ∷ []) [])) ≡ true
+      go : (t : Bool) → all (λ y. ltb y (codeOf m)) (map codeOf (passing p n)) ≡ true → all (λ y. ltb y (codeOf m)) (map codeOf (passing p n ++ cond t (n ∷ []) [])) ≡ true
       go true ih = rw (map-append codeOf (passing p n) (n ∷ []), all-append (λ y. ltb y (codeOf m)) (map codeOf (passing p n)) (codeOf n ∷ []), ih, lt-ltb (codeOf n) (codeOf m) (codes-rise n m h))
       go false ih = rw (append-nil (passing p n)) ih
 
@@ -54,7 +51,7 @@ module _ (p : ℕ → Bool) where
   codes-rising zero = refl
   codes-rising (suc n) = go (p n) (codes-rising n)
     where
-      go : (t : Bool) → rising (map codeOf (passing p n)) ≡ true → rising (map codeOf (passing p n ++ pick t (n ∷ []) [])) ≡ true
+      go : (t : Bool) → rising (map codeOf (passing p n)) ≡ true → rising (map codeOf (passing p n ++ cond t (n ∷ []) [])) ≡ true
       go true ih = rw (map-append codeOf (passing p n) (n ∷ [])) (rising-more (codeOf n) (map codeOf (passing p n)) ih (codes-below n n (omega arith)))
       go false ih = rw (append-nil (passing p n)) ih
 
@@ -129,6 +126,6 @@ module _ (w : ℕ → Bool) where
   unfolding listing
   known-settles t m e h k = go (all (settles w) (listedMonths w t)) refl e
     where
-      go : (a : Bool) → all (settles w) (listedMonths w t) ≡ a → pick a (record { known = true; codes = map codeOf (listedMonths w t) }) unknown .known ≡ true → settles w m ≡ true
+      go : (a : Bool) → all (settles w) (listedMonths w t) ≡ a → cond a (record { known = true; codes = map codeOf (listedMonths w t) }) unknown .known ≡ true → settles w m ≡ true
       go true a q = all-passing (settles w) (isListed w t) 1200 m a h k
-      go false a q = differ q
+      go false a q = absurd (false≢true q)

@@ -1,17 +1,14 @@
 -- What follows for months: codes, lengths, and that settlement days rise.
 use mathlib.Core.Path.{_≡_, refl, sym, ap, _∙_}
-use mathlib.Core.Bool.{Bool, true, false, _&&_}
+use mathlib.Core.Bool.{Bool, true, false, _&&_, cond}
 use Prim.Native.Nat.{ℕ, zero, suc, _+_, _-_, _*_, _/_, _%_, _≤_, _<_, min}
-use native.Mathlib.Numerals.{add-one}
 use native.Mathlib.Decide.{decLt}
 use native.Mathlib.Omega.{arith}
 use lib.Dec.{eqb, leb, ltb}
 use borrow.Author.Tests.{ltb-true, leb-true, lt-ltb, le-ltb, le-leb}
-use Rattle.lists.specs.Choice.{pick}
 use Rattle.days.specs.declared.Day.{Day}
 use Rattle.days.specs.declared.Day.the-variants.{On, NoDay}
 use Rattle.calendar.specs.declared.month.Month.{Month}
-use Rattle.calendar.specs.declared.month.Coded.{Coded}
 use Rattle.calendar.specs.declared.month.Coded.the-variants.{Is, NoMonth}
 use Rattle.days.specs.Days.{nextWorking, lastWorking, accepted}
 use Rattle.days.specs.DayLaws.{on-no-day, next-none, first-works, first-within, first-skips, first-misses, first-is, last-works, last-skips, accepted-run, all-off-run}
@@ -34,7 +31,7 @@ pub code-of : (code : ℕ) (m : Month) → monthOf code ≡ Is m → (codeOf (m 
 unfolding monthOf codeOf
 code-of code m e = go (isCode code) refl e
   where
-    go : (t : Bool) → isCode code ≡ t → pick t (Is (record { number = code / 100 * 12 + (code % 100 - 1) })) NoMonth ≡ Is m → (m .number / 12 * 100 + (m .number % 12 + 1) ≡ code) × (m .number < 1200)
+    go : (t : Bool) → isCode code ≡ t → cond t (Is (record { number = code / 100 * 12 + (code % 100 - 1) })) NoMonth ≡ Is m → (m .number / 12 * 100 + (m .number % 12 + 1) ≡ code) × (m .number < 1200)
     go true p q =
         let y : _≡_ {A = Month} (record { number = code / 100 * 12 + (code % 100 - 1) }) m = cc in
         let z : code / 100 * 12 + (code % 100 - 1) ≡ m .number = ap (λ (x : Month). x .number) y in
@@ -61,7 +58,7 @@ pub length-within : (m : ℕ) → (28 ≤ monthLength m) × (monthLength m ≤ 3
 unfolding monthLength
 length-within m = go (eqb (m % 12) 1) (eqb (m / 12 % 4) 0) (isShort (m % 12))
   where
-    go : (a b c : Bool) → (28 ≤ pick a (pick b 29 28) (pick c 30 31)) × (pick a (pick b 29 28) (pick c 30 31) ≤ 31)
+    go : (a b c : Bool) → (28 ≤ cond a (cond b 29 28) (cond c 30 31)) × (cond a (cond b 29 28) (cond c 30 31) ≤ 31)
     go true true c = omega arith
     go true false c = omega arith
     go false b true = omega arith

@@ -1,11 +1,9 @@
 -- Contract months: what document 01, 'Calendar and contract months', says of one month. A month is counted from January 2000 on, since a code has two digits for the year.
-use mathlib.Core.Bool.{Bool, _&&_, _||_}
+use mathlib.Core.Bool.{Bool, _&&_, _||_, cond}
 use Prim.Native.Nat.{ℕ, zero, suc, _+_, _-_, _*_, _/_, _%_}
 use lib.Dec.{eqb, leb, ltb}
-use Rattle.lists.specs.Choice.{pick}
 use Rattle.days.specs.declared.Day.{Day}
 use Rattle.days.specs.declared.Day.the-variants.{On, NoDay}
-use Rattle.calendar.specs.declared.month.Month.{Month}
 use Rattle.calendar.specs.declared.month.Coded.{Coded}
 use Rattle.calendar.specs.declared.month.Coded.the-variants.{Is, NoMonth}
 use Rattle.days.specs.Days.{nextWorking, workingBefore}
@@ -15,7 +13,7 @@ unfoldable pub isCode : ℕ → Bool
 isCode code = ltb code 10000 && (leb 1 (code % 100) && leb (code % 100) 12)
 
 unfoldable pub monthOf : ℕ → Coded
-monthOf code = pick (isCode code) (Is (record { number = code / 100 * 12 + (code % 100 - 1) })) NoMonth
+monthOf code = cond (isCode code) (Is (record { number = code / 100 * 12 + (code % 100 - 1) })) NoMonth
 
 unfoldable pub codeOf : ℕ → ℕ
 codeOf m = m / 12 * 100 + (m % 12 + 1)
@@ -36,14 +34,14 @@ january2020 = 240
 
 -- every fourth year of 2000 to 2099 is a leap year
 abbrev pub february : ℕ → ℕ
-february year = pick (eqb (year % 4) 0) 29 28
+february year = cond (eqb (year % 4) 0) 29 28
 
 -- April, June, September and November
 abbrev pub isShort : ℕ → Bool
 isShort m = eqb m 3 || (eqb m 5 || (eqb m 8 || eqb m 10))
 
 unfoldable pub monthLength : ℕ → ℕ
-monthLength m = pick (eqb (m % 12) 1) (february (m / 12)) (pick (isShort (m % 12)) 30 31)
+monthLength m = cond (eqb (m % 12) 1) (february (m / 12)) (cond (isShort (m % 12)) 30 31)
 
 -- the first day of the i-th month after January 2020
 unfoldable pub firstDay : ℕ → ℕ
@@ -56,7 +54,7 @@ thirdWednesday m = (firstDay (m - january2020) + 6) / 7 * 7 + 14
 
 -- "D is the third Wednesday, or the next working day if that is off .. none where .. the day [is] not in the calendar": the days of a month before January 2020 are before day 0
 unfoldable pub settlementDay : (ℕ → Bool) → ℕ → Day
-settlementDay w m = pick (ltb m january2020) NoDay (nextWorking w (thirdWednesday m))
+settlementDay w m = cond (ltb m january2020) NoDay (nextWorking w (thirdWednesday m))
 
 -- "last trading is the working day before D"
 abbrev pub beforeThat : (ℕ → Bool) → Day → Day

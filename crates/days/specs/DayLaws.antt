@@ -1,16 +1,14 @@
 -- What follows for days: the steps by which the code walks, what a search finds, and breaks of days off.
 use mathlib.Core.Path.{_≡_, refl, sym, ap, _∙_}
-use mathlib.Core.Bool.{Bool, true, false, _&&_, _||_, not}
+use mathlib.Core.Bool.{Bool, true, false, _&&_, not, cond, false≢true}
 use mathlib.Core.List.{List, [], _∷_}
 use Prim.Native.Nat.{ℕ, zero, suc, _+_, _-_, _≤_, _<_}
 use native.Mathlib.Numerals.{add-one}
 use native.Mathlib.Decide.{decLt}
 use native.Mathlib.Omega.{arith}
-use lib.Dec.{ltb}
 use lib.ListN.{length, getD, drop, drop-of-length-le}
 use lib.Seq.{drop-cons}
 use borrow.Author.Tests.{lt-ltb, le-ltb, eq-eqb, ne-eqb}
-use Rattle.lists.specs.Choice.{pick}
 use Rattle.days.specs.declared.Day.{Day}
 use Rattle.days.specs.declared.Day.the-variants.{On, NoDay}
 use Rattle.days.specs.Days.{days, isException, rising, risingAfter, firstWorking, nextWorking, lastWorking, isNoDay, isLongBreak, noLongBreak, accepted}
@@ -39,14 +37,6 @@ module _ (last : ℕ) (e : List ℕ) (i : ℕ) where
   pub rising-end : length e ≤ i → risingAfter last (drop i e) ≡ true
   unfolding risingAfter
   rising-end h = rw (drop-of-length-le e h)
-
-pub or-true : (t : Bool) → t || true ≡ true
-or-true true = refl
-or-true false = refl
-
-pub or-false : (t : Bool) → t || false ≡ t
-or-false true = refl
-or-false false = refl
 
 module _ (e : List ℕ) (i d : ℕ) where
   pub exception-hit : i < length e → getD e i 0 ≡ d → isException (drop i e) d ≡ true
@@ -96,9 +86,6 @@ module _ (w : ℕ → Bool) (d : ℕ) where
 
 -- ---- what a search finds
 
-pub differ : {A : Type 0} → false ≡ true → A
-differ e = let z : _≡_ {A = ℕ} 0 1 = cc in absurd (omega arith)
-
 -- a day and no day differ
 pub on-no-day : {A : Type 0} {d : ℕ} → On d ≡ NoDay → A
 on-no-day e = let z : _≡_ {A = ℕ} 0 1 = cc in absurd (omega arith)
@@ -109,7 +96,7 @@ module _ (w : ℕ → Bool) where
   first-works zero d f e = on-no-day (sym e)
   first-works (suc n) d f e = go (w d) refl (first-works n (d + 1) f) e
     where
-      go : (t : Bool) → w d ≡ t → (firstWorking w (d + 1) n ≡ On f → w f ≡ true) → pick t (On d) (firstWorking w (d + 1) n) ≡ On f → w f ≡ true
+      go : (t : Bool) → w d ≡ t → (firstWorking w (d + 1) n ≡ On f → w f ≡ true) → cond t (On d) (firstWorking w (d + 1) n) ≡ On f → w f ≡ true
       go true p ih q = let z : d ≡ f = cc in rw (← z) p
       go false p ih q = ih q
 
@@ -118,7 +105,7 @@ module _ (w : ℕ → Bool) where
   first-within zero d f e = on-no-day (sym e)
   first-within (suc n) d f e = go (w d) (first-within n (d + 1) f) e
     where
-      go : (t : Bool) → (firstWorking w (d + 1) n ≡ On f → (d + 1 ≤ f) × (f < d + 1 + n)) → pick t (On d) (firstWorking w (d + 1) n) ≡ On f → (d ≤ f) × (f < d + suc n)
+      go : (t : Bool) → (firstWorking w (d + 1) n ≡ On f → (d + 1 ≤ f) × (f < d + 1 + n)) → cond t (On d) (firstWorking w (d + 1) n) ≡ On f → (d ≤ f) × (f < d + suc n)
       go true ih q = let z : d ≡ f = cc in (omega arith, omega arith)
       go false ih q = let r = ih q in (omega (arith, r), omega (arith, r))
 
@@ -127,7 +114,7 @@ module _ (w : ℕ → Bool) where
   first-skips zero d f e k a b = on-no-day (sym e)
   first-skips (suc n) d f e k a b = go (w d) refl (decLt d k) (first-skips n (d + 1) f) e
     where
-      go : (t : Bool) → w d ≡ t → Dec (d < k) → (firstWorking w (d + 1) n ≡ On f → (k : ℕ) → d + 1 ≤ k → k < f → w k ≡ false) → pick t (On d) (firstWorking w (d + 1) n) ≡ On f → w k ≡ false
+      go : (t : Bool) → w d ≡ t → Dec (d < k) → (firstWorking w (d + 1) n ≡ On f → (k : ℕ) → d + 1 ≤ k → k < f → w k ≡ false) → cond t (On d) (firstWorking w (d + 1) n) ≡ On f → w k ≡ false
       go true p u ih q = let z : d ≡ f = cc in absurd (omega arith)
       go false p (yes u) ih q = ih q k (omega arith) b
       go false p (no u) ih q = let z : k ≡ d = omega arith in rw z p
@@ -137,7 +124,7 @@ module _ (w : ℕ → Bool) where
   first-misses zero d e k a b = absurd (omega arith)
   first-misses (suc n) d e k a b = go (w d) refl (decLt d k) (first-misses n (d + 1)) e
     where
-      go : (t : Bool) → w d ≡ t → Dec (d < k) → (firstWorking w (d + 1) n ≡ NoDay → (k : ℕ) → d + 1 ≤ k → k < d + 1 + n → w k ≡ false) → pick t (On d) (firstWorking w (d + 1) n) ≡ NoDay → w k ≡ false
+      go : (t : Bool) → w d ≡ t → Dec (d < k) → (firstWorking w (d + 1) n ≡ NoDay → (k : ℕ) → d + 1 ≤ k → k < d + 1 + n → w k ≡ false) → cond t (On d) (firstWorking w (d + 1) n) ≡ NoDay → w k ≡ false
       go true p u ih q = on-no-day q
       go false p (yes u) ih q = ih q k (omega arith) (omega arith)
       go false p (no u) ih q = let z : k ≡ d = omega arith in rw z p
@@ -148,7 +135,7 @@ module _ (w : ℕ → Bool) where
   first-is zero d f a b p h = absurd (omega arith)
   first-is (suc n) d f a b p h = go (decLt d f) (first-is n (d + 1) f)
     where
-      go : Dec (d < f) → (d + 1 ≤ f → f < d + 1 + n → w f ≡ true → ((k : ℕ) → d + 1 ≤ k → k < f → w k ≡ false) → firstWorking w (d + 1) n ≡ On f) → pick (w d) (On d) (firstWorking w (d + 1) n) ≡ On f
+      go : Dec (d < f) → (d + 1 ≤ f → f < d + 1 + n → w f ≡ true → ((k : ℕ) → d + 1 ≤ k → k < f → w k ≡ false) → firstWorking w (d + 1) n ≡ On f) → cond (w d) (On d) (firstWorking w (d + 1) n) ≡ On f
       go (yes u) ih = rw (h d (omega arith) u) (ih (omega arith) (omega arith) p (λ k x y. h k (omega arith) y))
       go (no u) ih = let z : d ≡ f = omega arith in rw (z, p)
 
@@ -157,7 +144,7 @@ module _ (w : ℕ → Bool) where
   last-works zero f e = on-no-day (sym e)
   last-works (suc d) f e = go (w d) refl (last-works d f) e
     where
-      go : (t : Bool) → w d ≡ t → (lastWorking w d ≡ On f → (f < d) × (w f ≡ true)) → pick t (On d) (lastWorking w d) ≡ On f → (f < suc d) × (w f ≡ true)
+      go : (t : Bool) → w d ≡ t → (lastWorking w d ≡ On f → (f < d) × (w f ≡ true)) → cond t (On d) (lastWorking w d) ≡ On f → (f < suc d) × (w f ≡ true)
       go true p ih q = let z : d ≡ f = cc in (omega arith, rw (← z) p)
       go false p ih q = let r = ih q in (omega (arith, r .0), r .1)
 
@@ -166,7 +153,7 @@ module _ (w : ℕ → Bool) where
   last-skips zero f e k a b = on-no-day (sym e)
   last-skips (suc d) f e k a b = go (w d) refl (decLt k d) (last-skips d f) e
     where
-      go : (t : Bool) → w d ≡ t → Dec (k < d) → (lastWorking w d ≡ On f → (k : ℕ) → f < k → k < d → w k ≡ false) → pick t (On d) (lastWorking w d) ≡ On f → w k ≡ false
+      go : (t : Bool) → w d ≡ t → Dec (k < d) → (lastWorking w d ≡ On f → (k : ℕ) → f < k → k < d → w k ≡ false) → cond t (On d) (lastWorking w d) ≡ On f → w k ≡ false
       go true p u ih q = let z : d ≡ f = cc in absurd (omega arith)
       go false p (yes u) ih q = ih q k a u
       go false p (no u) ih q = let z : k ≡ d = omega arith in rw z p
@@ -177,17 +164,17 @@ module _ (w : ℕ → Bool) where
   last-finds zero k h e = absurd (omega arith)
   last-finds (suc d) k h e = go (w d) refl (decLt k d) (last-finds d k)
     where
-      go : (t : Bool) → w d ≡ t → Dec (k < d) → (k < d → w k ≡ true → (l : ℕ) × ((lastWorking w d ≡ On l) × (k ≤ l))) → (l : ℕ) × ((pick t (On d) (lastWorking w d) ≡ On l) × (k ≤ l))
+      go : (t : Bool) → w d ≡ t → Dec (k < d) → (k < d → w k ≡ true → (l : ℕ) × ((lastWorking w d ≡ On l) × (k ≤ l))) → (l : ℕ) × ((cond t (On d) (lastWorking w d) ≡ On l) × (k ≤ l))
       go true p u ih = (d, (refl, omega arith))
       go false p (yes u) ih = ih u e
-      go false p (no u) ih = let z : k ≡ d = omega arith in differ (sym p ∙ rw (← z) e)
+      go false p (no u) ih = let z : k ≡ d = omega arith in absurd (false≢true (sym p ∙ rw (← z) e))
 
 -- ---- breaks: days off that run
 
 -- how many days off run up to d
 unfoldable pub offRun : (ℕ → Bool) → ℕ → ℕ
 offRun w zero = 0
-offRun w (suc d) = pick (w d) 0 (offRun w d + 1)
+offRun w (suc d) = cond (w d) 0 (offRun w d + 1)
 
 module _ (w : ℕ → Bool) where
   pub run-on : (d : ℕ) → w d ≡ true → offRun w (d + 1) ≡ 0
@@ -203,7 +190,7 @@ module _ (w : ℕ → Bool) where
   run-most zero = omega arith
   run-most (suc d) = go (w d) (run-most d)
     where
-      go : (t : Bool) → offRun w d ≤ d → pick t 0 (offRun w d + 1) ≤ suc d
+      go : (t : Bool) → offRun w d ≤ d → cond t 0 (offRun w d + 1) ≤ suc d
       go true h = omega arith
       go false h = omega arith
 
@@ -213,7 +200,7 @@ module _ (w : ℕ → Bool) where
   run-is-off zero k h u = absurd (omega arith)
   run-is-off (suc d) k h u = go (w d) refl (decLt k d) h (run-is-off d k)
     where
-      go : (t : Bool) → w d ≡ t → Dec (k < d) → suc d ≤ k + pick t 0 (offRun w d + 1) → (d ≤ k + offRun w d → k < d → w k ≡ false) → w k ≡ false
+      go : (t : Bool) → w d ≡ t → Dec (k < d) → suc d ≤ k + cond t 0 (offRun w d + 1) → (d ≤ k + offRun w d → k < d → w k ≡ false) → w k ≡ false
       go true p v q ih = absurd (omega arith)
       go false p (yes v) q ih = ih (omega arith) v
       go false p (no v) q ih = let z : k ≡ d = omega arith in rw z p
@@ -294,5 +281,5 @@ module _ (w : ℕ → Bool) where
           let z : d - 15 + 15 ≡ d = omega arith in
           let b = run-break (d - 15) (omega (arith, ap (offRun w) z)) in
           let c = no-break-at (d - 15) (days - 14) (omega arith) a in
-          differ (sym c ∙ b)
+          absurd (false≢true (sym c ∙ b))
       go (no u) = omega arith

@@ -1,9 +1,8 @@
 -- Working days: what document 01, 'Calendar and contract months', says of days.
-use mathlib.Core.Bool.{Bool, true, false, _&&_, _||_, not}
+use mathlib.Core.Bool.{Bool, true, false, _&&_, _||_, not, cond}
 use mathlib.Core.List.{List, [], _∷_}
 use Prim.Native.Nat.{ℕ, zero, suc, _+_, _-_, _%_, min}
 use lib.Dec.{eqb, ltb}
-use Rattle.lists.specs.Choice.{pick}
 use Rattle.days.specs.declared.Day.{Day}
 use Rattle.days.specs.declared.Day.the-variants.{On, NoDay}
 
@@ -33,14 +32,14 @@ rising (e ∷ rest) = risingAfter e rest
 
 -- "other days working .. each flips its day": on an exception a day off works, and a working day is off
 unfoldable pub isWorking : List ℕ → ℕ → Bool
-isWorking exceptions d = pick (isException exceptions d) (isWeekend d) (not (isWeekend d))
+isWorking exceptions d = cond (isException exceptions d) (isWeekend d) (not (isWeekend d))
 
 -- ---- looking for a working day. `w` says which days are working
 
 -- the first working day of the n days from d on
 unfoldable pub firstWorking : (ℕ → Bool) → ℕ → ℕ → Day
 firstWorking w d zero = NoDay
-firstWorking w d (suc n) = pick (w d) (On d) (firstWorking w (d + 1) n)
+firstWorking w d (suc n) = cond (w d) (On d) (firstWorking w (d + 1) n)
 
 -- the next working day: the first from d on, if the calendar still has one
 abbrev pub nextWorking : (ℕ → Bool) → ℕ → Day
@@ -49,7 +48,7 @@ nextWorking w d = firstWorking w d (days - d)
 -- the last working day below d
 unfoldable pub lastWorking : (ℕ → Bool) → ℕ → Day
 lastWorking w zero = NoDay
-lastWorking w (suc d) = pick (w d) (On d) (lastWorking w d)
+lastWorking w (suc d) = cond (w d) (On d) (lastWorking w d)
 
 -- the working day before d: the last of the calendar's days before it, if there is one
 abbrev pub workingBefore : (ℕ → Bool) → ℕ → Day

@@ -33,7 +33,7 @@ pub fn are_rising(exceptions: &[u64]) -> bool
     true
 }
 
-// Walks all exceptions. That they rise is not needed yet; it lets the walk be shortened under the same contract.
+// Walks all exceptions. The contract asks that they rise, so that a shorter walk can take its place under it.
 fn is_exception(exceptions: &[u64], day: u64) -> bool
     requires { ⌜ rising (now exceptions) ≡ true ⌝ }
     ensures { λ r. ⌜ r ≡ isException (now (exceptions .entry)) day ⌝ }

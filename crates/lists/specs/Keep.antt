@@ -1,11 +1,16 @@
--- What holds of a search's outcome and of each element of a list after a store, from what holds of the parts.
+-- What holds of a choice, of a search's outcome and of each element of a list after a store, from what holds of the parts.
 use mathlib.Core.Path.{_≡_, refl}
+use mathlib.Core.Bool.{Bool, true, false, cond}
 use mathlib.Core.List.{List, [], _∷_, _++_}
 use Prim.Native.Nat.{ℕ, zero, suc}
 use lib.ListN.{getD, set, replicate}
 use Rattle.lists.specs.declared.Found.{Found}
 use Rattle.lists.specs.declared.Found.the-variants.{At, Nothing}
 use Rattle.lists.specs.Seek.{onFound}
+
+pub cond-keeps : {A : Type 0} (P : A → Type 0) (t : Bool) (x y : A) → (t ≡ true → P x) → (t ≡ false → P y) → P (cond t x y)
+cond-keeps P true x y p q = p refl
+cond-keeps P false x y p q = q refl
 
 pub found-keeps : {A : Type 0} (P : A → Type 0) (f : Found) (none : A) (some : ℕ → A) → P none → ((i : ℕ) → f ≡ At i → P (some i)) → P (onFound f none some)
 found-keeps P (At i) none some p q = q i refl

@@ -1,17 +1,17 @@
 -- The numbers below n that pass a test, in rising order; and a test of all elements of a list.
 use mathlib.Core.Path.{_≡_, refl, sym, ap, _∙_}
-use mathlib.Core.Bool.{Bool, true, false, _&&_}
+use mathlib.Core.Bool.{Bool, true, false, _&&_, cond}
 use mathlib.Core.List.{List, [], _∷_, _++_, append-nil}
 use Prim.Native.Nat.{ℕ, zero, suc, _+_, _-_, _≤_, _<_}
 use native.Mathlib.Numerals.{add-one}
 use native.Mathlib.Decide.{decLt}
 use native.Mathlib.Omega.{arith}
 use lib.ListN.{length, length-append}
-use Rattle.lists.specs.Choice.{pick}
+use Rattle.lists.specs.Tests.{and-both}
 
 unfoldable pub passing : (ℕ → Bool) → ℕ → List ℕ
 passing p zero = []
-passing p (suc n) = passing p n ++ pick (p n) (n ∷ []) []
+passing p (suc n) = passing p n ++ cond (p n) (n ∷ []) []
 
 unfoldable pub all : (ℕ → Bool) → List ℕ → Bool
 all test [] = true
@@ -31,10 +31,10 @@ module _ (p : ℕ → Bool) (n : ℕ) where
   pub count-hit : p n ≡ true → length (passing p (n + 1)) ≡ length (passing p n) + 1
   count-hit e = ap length (passing-hit e) ∙ length-append (passing p n) (n ∷ [])
 
-  pub count-step : length (passing p (n + 1)) ≡ length (passing p n) + pick (p n) 1 0
+  pub count-step : length (passing p (n + 1)) ≡ length (passing p n) + cond (p n) 1 0
   count-step = go (p n) refl
     where
-      go : (t : Bool) → p n ≡ t → length (passing p (n + 1)) ≡ length (passing p n) + pick t 1 0
+      go : (t : Bool) → p n ≡ t → length (passing p (n + 1)) ≡ length (passing p n) + cond t 1 0
       go true e = count-hit e
       go false e = let z : length (passing p n) ≡ length (passing p n) + 0 = omega arith in ap length (passing-miss e) ∙ z
 
@@ -63,7 +63,7 @@ pub count-more : (p q : ℕ → Bool) (n : ℕ) → ((k : ℕ) → p k ≡ true 
 count-more p q zero h = let e = ap length (passing-none p 0 (λ k i. absurd (omega arith))) in omega arith
 count-more p q (suc n) h = rw (sym (add-one n), count-step p n, count-step q n) (go (p n) refl (count-more p q n h))
   where
-    go : (t : Bool) → p n ≡ t → length (passing p n) ≤ length (passing q n) → length (passing p n) + pick t 1 0 ≤ length (passing q n) + pick (q n) 1 0
+    go : (t : Bool) → p n ≡ t → length (passing p n) ≤ length (passing q n) → length (passing p n) + cond t 1 0 ≤ length (passing q n) + cond (q n) 1 0
     go true e ih = rw (h n e) (omega arith)
     go false e ih = omega arith
 
@@ -78,18 +78,14 @@ all-append test (x ∷ a) b = go (test x) (all-append test a b)
     go true ih = ih
     go false ih = refl
 
-pub and-both : (s t : Bool) → s && t ≡ true → (s ≡ true) × (t ≡ true)
-and-both true t e = (refl, e)
-and-both false t e = let z : _≡_ {A = ℕ} 0 1 = cc in absurd (omega arith)
-
 -- what holds of all that pass holds of each
 pub all-passing : (test p : ℕ → Bool) (n k : ℕ) → all test (passing p n) ≡ true → k < n → p k ≡ true → test k ≡ true
 unfolding all passing
 all-passing test p zero k a h e = absurd (omega arith)
 all-passing test p (suc n) k a h e =
-    let both = and-both _ _ (sym (all-append test (passing p n) (pick (p n) (n ∷ []) [])) ∙ a) in
+    let both = and-both _ _ (sym (all-append test (passing p n) (cond (p n) (n ∷ []) [])) ∙ a) in
     go (decLt k n) both (all-passing test p n k (both .0))
   where
-    go : Dec (k < n) → (all test (passing p n) ≡ true) × (all test (pick (p n) (n ∷ []) []) ≡ true) → (k < n → p k ≡ true → test k ≡ true) → test k ≡ true
+    go : Dec (k < n) → (all test (passing p n) ≡ true) × (all test (cond (p n) (n ∷ []) []) ≡ true) → (k < n → p k ≡ true → test k ≡ true) → test k ≡ true
     go (yes u) both ih = ih u e
     go (no u) both ih = let z : n ≡ k = omega arith in and-both (test k) true (rw (z, e) at (both .1)) .0

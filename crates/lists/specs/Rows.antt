@@ -1,11 +1,11 @@
 -- The first n rows of a table, changed one by one; the others untouched.
 use mathlib.Core.Path.{_≡_, refl, sym, ap, _∙_}
-use mathlib.Core.List.{append-nil, List, [], _∷_, _++_, map}
-use Prim.Native.Nat.{ℕ, suc, _+_, _≤_, _<_}
+use mathlib.Core.List.{List, [], _∷_, _++_, map}
+use Prim.Native.Nat.{ℕ, suc, _+_, _<_}
 use native.Mathlib.Numerals.{add-one}
 use native.Mathlib.Omega.{arith}
-use lib.ListN.{drop-of-length-le, length, take, drop, getD, set, length-append, length-take, length-drop, length-map}
-use lib.Seq.{take-all, drop-cons, take-suc, set-at, getD-at, length-take-le, append-snoc}
+use lib.ListN.{length, take, drop, getD, set, length-append, length-take, length-drop, length-map}
+use lib.Seq.{drop-cons, take-suc, set-at, getD-at, length-take-le, append-snoc}
 
 abbrev pub firstRows : {X : Type 0} → (X → X) → ℕ → List X → List X
 firstRows f n l = map f (take n l) ++ drop n l

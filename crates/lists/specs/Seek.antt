@@ -1,18 +1,17 @@
 -- Search by a number: the first place that holds it, whatever the table's form. `at` reads a place.
-use mathlib.Core.Path.{_≡_, refl, sym, ap, _∙_}
-use mathlib.Core.Bool.{Bool, true, false}
+use mathlib.Core.Path.{_≡_, refl}
+use mathlib.Core.Bool.{Bool, true, false, cond}
 use Prim.Native.Nat.{ℕ, zero, suc, _+_, _-_, _≤_, _<_}
 use native.Mathlib.Omega.{arith}
 use lib.Dec.{eqb}
 use borrow.Author.Tests.{eq-eqb, ne-eqb, eqb-true}
-use Rattle.lists.specs.Choice.{pick}
 use Rattle.lists.specs.declared.Found.{Found}
 use Rattle.lists.specs.declared.Found.the-variants.{At, Nothing}
 
 -- the first of `left` places from i on that holds n
 unfoldable pub seek : (ℕ → ℕ) → ℕ → ℕ → ℕ → Found
 seek at n zero i = Nothing
-seek at n (suc left) i = pick (eqb (at i) n) (At i) (seek at n left (i + 1))
+seek at n (suc left) i = cond (eqb (at i) n) (At i) (seek at n left (i + 1))
 
 abbrev pub onFound : {A : Type 0} → Found → A → (ℕ → A) → A
 onFound (At i) none some = some i
@@ -39,7 +38,7 @@ unfolding seek
 seek-below at n zero i j e = let z : _≡_ {A = ℕ} 0 1 = cc in omega arith
 seek-below at n (suc left) i j e = go (eqb (at i) n) (seek-below at n left (i + 1) j) e
   where
-    go : (t : Bool) → (seek at n left (i + 1) ≡ At j → j < (i + 1) + left) → pick t (At i) (seek at n left (i + 1)) ≡ At j → j < i + suc left
+    go : (t : Bool) → (seek at n left (i + 1) ≡ At j → j < (i + 1) + left) → cond t (At i) (seek at n left (i + 1)) ≡ At j → j < i + suc left
     go true ih q = let z : i ≡ j = cc in omega arith
     go false ih q = omega (arith, ih q)
 
@@ -55,6 +54,6 @@ unfolding seek
 seek-hits f n zero i j e = let z : _≡_ {A = ℕ} 0 1 = cc in absurd (omega arith)
 seek-hits f n (suc left) i j e = go (eqb (f i) n) refl (seek-hits f n left (i + 1) j) e
   where
-    go : (t : Bool) → eqb (f i) n ≡ t → (seek f n left (i + 1) ≡ At j → f j ≡ n) → pick t (At i) (seek f n left (i + 1)) ≡ At j → f j ≡ n
+    go : (t : Bool) → eqb (f i) n ≡ t → (seek f n left (i + 1) ≡ At j → f j ≡ n) → cond t (At i) (seek f n left (i + 1)) ≡ At j → f j ≡ n
     go true p ih q = let z : i ≡ j = cc in rw (← z) (eqb-true (f i) n p)
     go false p ih q = ih q

@@ -1,5 +1,5 @@
 use mathlib.Core.Path.{_≡_, sym, _∙_}
-use Prim.Native.Nat.{_+_, _-_, _≤_}
+use Prim.Native.Nat.{_-_, _≤_}
 use lib.ListN.{length, drop}
 use Rattle.days.specs.Days.{rising, risingAfter}
 use Rattle.days.specs.DayLaws.{rising-start, rising-more, rising-stop, rising-end, rising-empty}

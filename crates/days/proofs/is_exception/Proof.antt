@@ -1,10 +1,10 @@
 use mathlib.Core.Path.{_≡_, refl, sym, ap, _∙_}
-use mathlib.Core.Bool.{_||_}
+use mathlib.Core.Bool.{_||_, or-true, or-false}
 use mathlib.Core.Logic.{⊎-elim}
-use Prim.Native.Nat.{_+_, _-_, _≤_}
+use Prim.Native.Nat.{_-_, _≤_}
 use lib.ListN.{length, drop}
 use Rattle.days.specs.Days.{isException}
-use Rattle.days.specs.DayLaws.{exception-hit, exception-miss, exception-end, or-true, or-false}
+use Rattle.days.specs.DayLaws.{exception-hit, exception-miss, exception-end}
 use native.Mathlib.Omega.{arith}
 use Rattle.days.proofs.is_exception.Statement.{statement}
 use Rattle.days.proofs.is_exception.Tie as tie

@@ -1,5 +1,5 @@
 use mathlib.Core.Path.{_≡_, refl, sym, _∙_}
-use Prim.Native.Nat.{_+_, _-_}
+use Prim.Native.Nat.{_-_}
 use Rattle.days.specs.Days.{isWorking, nextWorking}
 use Rattle.days.specs.DayLaws.{next-hit, next-miss, next-none}
 use native.Mathlib.Omega.{arith}

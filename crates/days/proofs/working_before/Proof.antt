@@ -1,4 +1,4 @@
-use mathlib.Core.Path.{_≡_, refl, sym, ap, _∙_}
+use mathlib.Core.Path.{_≡_, sym, ap, _∙_}
 use Prim.Native.Nat.{_-_}
 use Rattle.days.specs.Days.{isWorking, lastWorking, workingBefore}
 use Rattle.days.specs.DayLaws.{last-hit, last-miss, last-none}

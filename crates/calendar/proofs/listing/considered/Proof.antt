@@ -5,7 +5,6 @@ use Rattle.calendar.specs.Months.{isQuarterly}
 use Rattle.calendar.specs.Listing.{isAfter}
 use Rattle.calendar.specs.Choosing.{hasPlace, considered}
 use Rattle.calendar.specs.ChoosingLaws.{place-left}
-use native.Mathlib.Omega.{arith}
 use borrow.Author.Needs.{needs}
 use Rattle.calendar.proofs.listing.considered.Statement.{statement}
 use Rattle.calendar.proofs.listing.considered.Tie as tie

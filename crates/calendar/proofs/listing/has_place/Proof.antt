@@ -1,4 +1,3 @@
-use Rattle.calendar.specs.Choosing.{hasPlace}
 use Rattle.calendar.proofs.listing.has_place.Statement.{statement}
 use Rattle.calendar.proofs.listing.has_place.Tie as tie
 

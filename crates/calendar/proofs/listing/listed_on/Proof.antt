@@ -1,4 +1,4 @@
-use mathlib.Core.Path.{_≡_, refl, sym, ap, _∙_}
+use mathlib.Core.Path.{_≡_, sym, ap, _∙_}
 use Prim.Native.Nat.{_+_, _-_, _≤_}
 use Rattle.days.specs.Days.{isWorking}
 use Rattle.calendar.specs.Choosing.{considered, answered, chosenBefore}

@@ -1,4 +1,4 @@
-use mathlib.Core.Path.{sym, _∙_}
+use mathlib.Core.Path.{sym}
 use native.Mathlib.Omega.{arith}
 use Rattle.calendar.specs.MonthLaws.{settle-before, settle-in, settle-past}
 use borrow.Author.Needs.{needs}

@@ -1,0 +1,11 @@
+pub mod Ring
+pub mod Parts
+pub mod Expand
+pub mod Order
+pub mod Within
+pub mod Machine
+pub mod Tests
+pub mod Sums
+pub mod Larger
+pub mod Round
+pub mod RoundLaws
