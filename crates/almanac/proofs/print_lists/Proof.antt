@@ -1,3 +1,4 @@
+-- Each turn begins within the input, and ends past a line.
 use Prim.Native.Nat.{_+_, _-_, _≤_}
 use lib.ListN.{length}
 use borrow.Author.Needs.{needs}

@@ -1,3 +1,4 @@
+-- The answer is whether what is left rises after the last exception passed.
 use mathlib.Core.Path.{_≡_, sym, _∙_}
 use Prim.Native.Nat.{_-_, _≤_}
 use lib.ListN.{length, drop}

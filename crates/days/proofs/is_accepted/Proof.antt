@@ -1,3 +1,4 @@
+-- The run counted is the run of days off that ends with the day; while no run is longer than 14, no long break has ended.
 use mathlib.Core.Path.{_≡_, refl, sym, ap, _∙_}
 use mathlib.Core.Bool.{true}
 use mathlib.Core.Logic.{⊎-elim}

@@ -1,3 +1,4 @@
+-- The answer is whether the day was found or is among those left.
 use mathlib.Core.Path.{_≡_, refl, sym, ap, _∙_}
 use mathlib.Core.Bool.{_||_, or-true, or-false}
 use mathlib.Core.Logic.{⊎-elim}

@@ -1,3 +1,4 @@
+-- The two days of the definition, one test each.
 use borrow.Author.Tests.{eq-eqb, ne-eqb}
 use Rattle.days.specs.Days.{isWeekend}
 use Rattle.days.proofs.is_weekend.Statement.{statement}

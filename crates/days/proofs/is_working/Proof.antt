@@ -1,3 +1,4 @@
+-- By whether the day is an exception.
 use mathlib.Core.Path.{sym, _∙_}
 use Rattle.days.specs.Days.{isWorking}
 use borrow.Author.Needs.{needs}

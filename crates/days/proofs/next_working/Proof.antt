@@ -1,3 +1,4 @@
+-- The answer is the next working day from the day that the loop has reached.
 use mathlib.Core.Path.{_≡_, refl, sym, _∙_}
 use Prim.Native.Nat.{_-_}
 use Rattle.days.specs.Days.{isWorking, nextWorking}

@@ -1,3 +1,4 @@
+-- The answer is the last working day below the day that the loop has reached.
 use mathlib.Core.Path.{_≡_, sym, ap, _∙_}
 use Prim.Native.Nat.{_-_}
 use Rattle.days.specs.Days.{isWorking, lastWorking, workingBefore}

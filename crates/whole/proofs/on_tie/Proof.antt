@@ -1,3 +1,4 @@
+-- The next number fits.
 use native.Mathlib.Omega.{arith}
 use Rattle.whole.proofs.on_tie.Statement.{statement}
 use Rattle.whole.proofs.on_tie.Tie as tie

@@ -1,3 +1,4 @@
+-- The code's test is the one of the definition, at the numbers.
 use mathlib.Core.Path.{sym, _∙_}
 use Rattle.whole.specs.Larger.{smaller}
 use Rattle.whole.specs.Machine.{back}

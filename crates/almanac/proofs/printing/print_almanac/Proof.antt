@@ -1,3 +1,4 @@
+-- The test that the exceptions rise gives what the calendar asks.
 use mathlib.Core.Path.{sym, _∙_}
 use borrow.Author.Tests.{not-false}
 use borrow.Author.Needs.{needs}

@@ -1,3 +1,4 @@
+-- At most 400 days are lent, so the part is within the array.
 use lib.ListN.{length-take}
 use native.Mathlib.Omega.{arith}
 use borrow.Author.Needs.{needs}

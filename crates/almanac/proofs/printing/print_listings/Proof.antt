@@ -1,3 +1,4 @@
+-- The last day is in the calendar, so counting on fits.
 use Prim.Native.Nat.{_+_, _-_}
 use borrow.Author.Needs.{needs}
 use Rattle.almanac.proofs.printing.print_listings.Statement.{statement}

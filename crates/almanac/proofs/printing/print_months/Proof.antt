@@ -1,3 +1,4 @@
+-- The loop counts months up to a constant.
 use Prim.Native.Nat.{_-_}
 use borrow.Author.Needs.{needs}
 use Rattle.almanac.proofs.printing.print_months.Statement.{statement}

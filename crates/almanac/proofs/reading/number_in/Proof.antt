@@ -1,3 +1,4 @@
+-- The number is at most 9,999 where a turn begins, so one digit more fits.
 use Prim.Native.Nat.{_-_, _≤_}
 use lib.ListN.{length}
 use borrow.Author.Needs.{needs}

@@ -1,3 +1,4 @@
+-- The place stays within the line, and the count within the array.
 use Prim.Native.Nat.{_-_, _≤_}
 use lib.ListN.{length}
 use borrow.Author.Needs.{needs}

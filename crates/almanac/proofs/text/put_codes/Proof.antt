@@ -1,3 +1,4 @@
+-- Each code has room for 21 bytes.
 use Prim.Native.Nat.{_+_, _-_, _*_, _≤_}
 use borrow.Author.Needs.{needs}
 use Rattle.almanac.proofs.text.put_codes.Statement.{statement}

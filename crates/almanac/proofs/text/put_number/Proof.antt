@@ -1,3 +1,4 @@
+-- A u64 has at most 20 digits.
 use Prim.Native.Nat.{_-_, _≤_}
 use native.Mathlib.Nat.{pow-le-pow-right}
 use native.Mathlib.Omega.{arith, by-contra}

@@ -1,3 +1,4 @@
+-- The word has its room, and a turn writes one byte of it.
 use Prim.Native.Nat.{_-_, _≤_}
 use lib.ListN.{length}
 use borrow.Author.Needs.{needs}

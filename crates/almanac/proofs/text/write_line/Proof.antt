@@ -1,3 +1,4 @@
+-- The end is within the line.
 use lib.ListN.{length-take}
 use native.Mathlib.Omega.{arith}
 use borrow.Author.Needs.{needs}

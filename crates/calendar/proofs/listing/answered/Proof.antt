@@ -1,3 +1,4 @@
+-- The two answers are those of the definition.
 use borrow.Author.Needs.{needs}
 use Rattle.calendar.proofs.listing.answered.Statement.{statement}
 use Rattle.calendar.proofs.listing.answered.Tie as tie

@@ -1,3 +1,4 @@
+-- Each test of the code is the one of the definition, and a kind with a place leaves a place of the six.
 use mathlib.Core.Path.{_≡_, sym, ap, _∙_}
 use mathlib.Core.Bool.{true}
 use borrow.Author.Tests.{not-true, not-false}

@@ -1,3 +1,4 @@
+-- Each arm is a case of the definition.
 use Rattle.calendar.proofs.listing.has_place.Statement.{statement}
 use Rattle.calendar.proofs.listing.has_place.Tie as tie
 

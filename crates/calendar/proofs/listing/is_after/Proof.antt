@@ -1,3 +1,4 @@
+-- Each arm is a case of the definition.
 use borrow.Author.Needs.{needs}
 use Rattle.calendar.proofs.listing.is_after.Statement.{statement}
 use Rattle.calendar.proofs.listing.is_after.Tie as tie

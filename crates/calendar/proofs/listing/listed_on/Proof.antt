@@ -1,3 +1,4 @@
+-- What is chosen at the head of the loop is what the definition chooses from the months before; six end it, and fewer at the calendar's end leave one past it.
 use mathlib.Core.Path.{_≡_, sym, ap, _∙_}
 use Prim.Native.Nat.{_+_, _-_, _≤_}
 use Rattle.days.specs.Days.{isWorking}

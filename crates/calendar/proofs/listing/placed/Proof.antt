@@ -1,3 +1,4 @@
+-- The flag is the conjunction, by whichever arm it came.
 use mathlib.Core.Path.{_≡_, _∙_}
 use mathlib.Core.Bool.{_&&_}
 use mathlib.Core.Logic.{⊎-elim}

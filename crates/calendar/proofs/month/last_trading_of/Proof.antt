@@ -1,3 +1,4 @@
+-- By the two cases of the code.
 use mathlib.Core.Path.{sym, _∙_}
 use borrow.Author.Needs.{needs}
 use Rattle.calendar.proofs.month.last_trading_of.Statement.{statement}

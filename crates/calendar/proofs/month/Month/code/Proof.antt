@@ -1,3 +1,4 @@
+-- The code is the definition's expression.
 use mathlib.Core.Path.{refl}
 use Rattle.calendar.specs.Months.{codeOf}
 use borrow.Author.Needs.{needs}

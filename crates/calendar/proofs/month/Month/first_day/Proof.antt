@@ -1,3 +1,4 @@
+-- The table's rule holds at each of its places.
 use Prim.Native.Nat.{_-_}
 use lib.Dec.{eqb→eq}
 use lib.ListN.{getD}

@@ -1,3 +1,4 @@
+-- Each refusal is one of the definition's tests.
 use borrow.Author.Tests.{lt-ltb, le-ltb, le-leb, lt-leb}
 use native.Mathlib.Omega.{arith}
 use Rattle.calendar.specs.Months.{isCode, monthOf}

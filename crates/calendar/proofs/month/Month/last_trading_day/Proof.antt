@@ -1,3 +1,4 @@
+-- By the two cases of the settlement day.
 use mathlib.Core.Path.{sym, _∙_}
 use Rattle.calendar.specs.Months.{lastTradingDay}
 use borrow.Author.Needs.{needs}

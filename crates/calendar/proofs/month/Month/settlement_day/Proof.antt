@@ -1,3 +1,4 @@
+-- A month before the calendar, past it, or in it.
 use mathlib.Core.Path.{sym}
 use native.Mathlib.Omega.{arith}
 use Rattle.calendar.specs.MonthLaws.{settle-before, settle-in, settle-past}

@@ -1,3 +1,4 @@
+-- A first day is small enough for every sum.
 use Rattle.calendar.specs.Months.{thirdWednesday}
 use Rattle.calendar.specs.MonthLaws.{first-most}
 use Prim.Native.Nat.{_-_}
