@@ -4,6 +4,6 @@ use Rattle.almanac.specs.declared.reading.Days.{Days}
 use Rattle.almanac.specs.declared.reading.Days.the-variants.{Kept, NoList}
 
 -- the days that are kept lie within an array of 400
-abbrev pub Within : Days → Type 0
-Within (Kept count) = count ≤ 400
-Within NoList = Unit {0}
+abbrev pub FitsArray : Days → Type 0
+FitsArray (Kept count) = count ≤ 400
+FitsArray NoList = Unit {0}

@@ -1,7 +1,7 @@
 // Reading: a line of the input is a list of exceptions, day numbers with spaces between them.
 ghost use Prim.Native.Nat.{_≤_};
 ghost use lib.ListN.{length};
-ghost use Rattle.almanac.specs.Reading.{Within};
+ghost use Rattle.almanac.specs.Reading.{FitsArray};
 
 // What a line holds: a list, with the number of its days, or something else.
 pub(crate) enum Days {
@@ -73,7 +73,7 @@ pub(crate) fn line_end(text: &[u8], from: usize) -> usize
 
 // Reads a line, and keeps its days, 400 at most.
 pub(crate) fn read_days(line: &[u8], days: &mut [u64; 400]) -> Days
-    ensures { λ r. ⌜ Within r ⌝ }
+    ensures { λ r. ⌜ FitsArray r ⌝ }
 {
     let mut count: usize = 0;
     let mut at: usize = 0;

@@ -10,7 +10,7 @@ use lib.Dec.{ltb}
 use lib.ListN.{length, set, replicate, length-append, length-map}
 use lib.Seq.{set-at, append-snoc}
 use borrow.Author.Tests.{ltb-true, lt-ltb, le-ltb, le-leb, lt-leb}
-use Rattle.lists.specs.Passing.{passing, all, passing-hit, passing-miss, passing-none, passing-ends, count-hit, count-step, count-grows, all-append, all-passing}
+use Rattle.lists.specs.Passing.{passing, all, passing-zero, passing-hit, passing-miss, passing-none, passing-ends, count-hit, count-step, count-grows, all-append, all-passing}
 use Rattle.lists.specs.Rows.{map-append}
 use Rattle.calendar.specs.declared.listing.Chosen.{Chosen}
 use Rattle.days.specs.Days.{isNoDay}
@@ -44,16 +44,13 @@ filled-more l m n e h =
     rw (free, long, map-append codeOf l (m ∷ []), set-at (map codeOf l) 0 (replicate (6 - (n + 1)) 0) (codeOf m) n (length-map l codeOf ∙ e))
     (sym (append-snoc (map codeOf l) (codeOf m) (replicate (6 - (n + 1)) 0)))
 
-nothing : (p : ℕ → Bool) → passing p 0 ≡ []
-nothing p = passing-none p 0 (λ k h. absurd (omega arith))
-
 module _ (w : ℕ → Bool) (t : ℕ) where
   -- ---- counts
 
   -- as many are listed as their kinds have places for
   pub listed-count : (m : ℕ) → length (passing (isListed w t) m) ≡ min 4 (earlier w t true m) + min 2 (earlier w t false m)
   unfolding isListed
-  listed-count zero = rw (nothing (isListed w t), nothing (isCandidate w t true), nothing (isCandidate w t false))
+  listed-count zero = rw (passing-zero (isListed w t), passing-zero (isCandidate w t true), passing-zero (isCandidate w t false))
   listed-count (suc m) =
       rw (sym (add-one m), count-step (isListed w t) m, count-step (isCandidate w t true) m, count-step (isCandidate w t false) m)
       (go (settlesAfter w t m) (isQuarterly m) (listed-count m) (decLt (earlier w t true m) 4) (decLt (earlier w t false m) 2))
@@ -91,14 +88,20 @@ module _ (w : ℕ → Bool) (t : ℕ) where
           passing-miss (isListed w t) m (rw e),
         )
 
+    -- its own kind has one more before the next month, the other kind as many
+    counted : (quarterly : Bool) → isQuarterly m ≡ quarterly → settlesAfter w t m ≡ true → earlier w t quarterly (m + 1) ≡ earlier w t quarterly m + 1
+    counted quarterly e a = count-hit (isCandidate w t quarterly) m (candidate quarterly e a)
+
+    kept : (quarterly : Bool) → isQuarterly m ≡ quarterly → earlier w t (not quarterly) m ≡ earlier w t (not quarterly) (m + 1)
+    kept quarterly e = ap length (sym (passing-miss (isCandidate w t (not quarterly)) m (no-candidate quarterly e)))
+
     chosen-full : (quarterly : Bool) → isQuarterly m ≡ quarterly → settlesAfter w t m ≡ true → places quarterly ≤ earlier w t quarterly m → chosenBefore w t m ≡ chosenBefore w t (m + 1)
     unfolding chosenBefore
-    chosen-full true e a h =
-        let no = passing-miss (isListed w t) m (listed-by true e a ∙ le-ltb (earlier w t true m) 4 h) in
-        same (omega (arith, count-hit (isCandidate w t true) m (candidate true e a))) (ap (λ l. min 2 (length l)) (sym (passing-miss (isCandidate w t false) m (no-candidate true e)))) (ap (all (settles w)) (sym no)) (ap filled (sym no))
-    chosen-full false e a h =
-        let no = passing-miss (isListed w t) m (listed-by false e a ∙ le-ltb (earlier w t false m) 2 h) in
-        same (ap (λ l. min 4 (length l)) (sym (passing-miss (isCandidate w t true) m (no-candidate false e)))) (omega (arith, count-hit (isCandidate w t false) m (candidate false e a))) (ap (all (settles w)) (sym no)) (ap filled (sym no))
+    chosen-full quarterly e a h = go quarterly e a h (sym (passing-miss (isListed w t) m (listed-by quarterly e a ∙ le-ltb (earlier w t quarterly m) (places quarterly) h)))
+      where
+        go : (q : Bool) → isQuarterly m ≡ q → settlesAfter w t m ≡ true → places q ≤ earlier w t q m → passing (isListed w t) m ≡ passing (isListed w t) (m + 1) → chosenBefore w t m ≡ chosenBefore w t (m + 1)
+        go true e a h unlisted = same (omega (arith, counted true e a)) (ap (min 2) (kept true e)) (ap (all (settles w)) unlisted) (ap filled unlisted)
+        go false e a h unlisted = same (ap (min 4) (kept false e)) (omega (arith, counted false e a)) (ap (all (settles w)) unlisted) (ap filled unlisted)
 
     all-more : isListed w t m ≡ true → all (settles w) (passing (isListed w t) m) && settles w m ≡ all (settles w) (passing (isListed w t) (m + 1))
     unfolding all
@@ -109,12 +112,11 @@ module _ (w : ℕ → Bool) (t : ℕ) where
 
     chosen-placed : (quarterly : Bool) → isQuarterly m ≡ quarterly → settlesAfter w t m ≡ true → earlier w t quarterly m < places quarterly → placed (chosenBefore w t m) quarterly (codeOf m) (settles w m) ≡ chosenBefore w t (m + 1)
     unfolding chosenBefore
-    chosen-placed true e a h =
-        let yes = listed-by true e a ∙ lt-ltb (earlier w t true m) 4 h in
-        same (omega (arith, count-hit (isCandidate w t true) m (candidate true e a))) (ap (λ l. min 2 (length l)) (sym (passing-miss (isCandidate w t false) m (no-candidate true e)))) (all-more yes) (codes-more yes (omega arith))
-    chosen-placed false e a h =
-        let yes = listed-by false e a ∙ lt-ltb (earlier w t false m) 2 h in
-        same (ap (λ l. min 4 (length l)) (sym (passing-miss (isCandidate w t true) m (no-candidate false e)))) (omega (arith, count-hit (isCandidate w t false) m (candidate false e a))) (all-more yes) (codes-more yes (omega arith))
+    chosen-placed quarterly e a h = go quarterly e a h (listed-by quarterly e a ∙ lt-ltb (earlier w t quarterly m) (places quarterly) h)
+      where
+        go : (q : Bool) → isQuarterly m ≡ q → settlesAfter w t m ≡ true → earlier w t q m < places q → isListed w t m ≡ true → placed (chosenBefore w t m) q (codeOf m) (settles w m) ≡ chosenBefore w t (m + 1)
+        go true e a h listed = same (omega (arith, counted true e a)) (ap (min 2) (kept true e)) (all-more listed) (codes-more listed (omega arith))
+        go false e a h listed = same (ap (min 4) (kept false e)) (omega (arith, counted false e a)) (all-more listed) (codes-more listed (omega arith))
 
     -- whether a kind has a place left is whether fewer than its places came earlier
     place-is : (quarterly : Bool) → hasPlace (chosenBefore w t m) quarterly ≡ ltb (earlier w t quarterly m) (places quarterly)

@@ -1,6 +1,6 @@
 -- What follows for listings: six codes that rise, what is listed stays until it settles, and what has settled is never listed again.
 use mathlib.Core.Path.{_≡_, refl, _∙_}
-use mathlib.Core.Bool.{Bool, true, false, not, cond, false≢true}
+use mathlib.Core.Bool.{Bool, true, false, not, cond, false≢true, and-eq-true-iff}
 use mathlib.Core.List.{List, [], _∷_, _++_, map, append-nil}
 use Prim.Native.Nat.{ℕ, zero, suc, _+_, _≤_, _<_}
 use native.Mathlib.Omega.{arith}
@@ -8,7 +8,6 @@ use lib.Dec.{ltb, leb}
 use lib.ListN.{length}
 use borrow.Author.Tests.{ltb-true, lt-ltb}
 use Rattle.lists.specs.Passing.{passing, all, count-past, count-more, all-append, all-passing}
-use Rattle.lists.specs.Tests.{and-both}
 use Rattle.lists.specs.Rows.{map-append}
 use Rattle.days.specs.declared.Day.{Day}
 use Rattle.days.specs.declared.Day.the-variants.{On, NoDay}
@@ -21,20 +20,20 @@ use Rattle.calendar.specs.ChoosingLaws.{listed-count, past-candidate}
 
 -- ---- codes of months that pass a test, in rising order
 
-rising-after-more : (e x : ℕ) (l : List ℕ) → risingAfter e l ≡ true → e < x → all (λ y. ltb y x) l ≡ true → risingAfter e (l ++ (x ∷ [])) ≡ true
+rising-after-append : (e x : ℕ) (l : List ℕ) → risingAfter e l ≡ true → e < x → all (λ y. ltb y x) l ≡ true → risingAfter e (l ++ (x ∷ [])) ≡ true
 unfolding risingAfter all
-rising-after-more e x [] r h a = rw (lt-ltb e x h)
-rising-after-more e x (f ∷ l) r h a =
-    let r′ = and-both (ltb e f) (risingAfter f l) r in
-    let a′ = and-both (ltb f x) (all (λ y. ltb y x) l) a in
-    rw (r′ .0) (rising-after-more f x l (r′ .1) (ltb-true f x (a′ .0)) (a′ .1))
+rising-after-append e x [] r h a = rw (lt-ltb e x h)
+rising-after-append e x (f ∷ l) r h a =
+    let r′ = and-eq-true-iff (ltb e f) (risingAfter f l) .0 r in
+    let a′ = and-eq-true-iff (ltb f x) (all (λ y. ltb y x) l) .0 a in
+    rw (r′ .0) (rising-after-append f x l (r′ .1) (ltb-true f x (a′ .0)) (a′ .1))
 
-rising-more : (x : ℕ) (l : List ℕ) → rising l ≡ true → all (λ y. ltb y x) l ≡ true → rising (l ++ (x ∷ [])) ≡ true
+rising-append : (x : ℕ) (l : List ℕ) → rising l ≡ true → all (λ y. ltb y x) l ≡ true → rising (l ++ (x ∷ [])) ≡ true
 unfolding rising risingAfter all
-rising-more x [] r a = refl
-rising-more x (f ∷ l) r a =
-    let a′ = and-both (ltb f x) (all (λ y. ltb y x) l) a in
-    rising-after-more f x l r (ltb-true f x (a′ .0)) (a′ .1)
+rising-append x [] r a = refl
+rising-append x (f ∷ l) r a =
+    let a′ = and-eq-true-iff (ltb f x) (all (λ y. ltb y x) l) .0 a in
+    rising-after-append f x l r (ltb-true f x (a′ .0)) (a′ .1)
 
 module _ (p : ℕ → Bool) where
   codes-below : (n m : ℕ) → n ≤ m → all (λ y. ltb y (codeOf m)) (map codeOf (passing p n)) ≡ true
@@ -52,7 +51,7 @@ module _ (p : ℕ → Bool) where
   codes-rising (suc n) = go (p n) (codes-rising n)
     where
       go : (t : Bool) → rising (map codeOf (passing p n)) ≡ true → rising (map codeOf (passing p n ++ cond t (n ∷ []) [])) ≡ true
-      go true ih = rw (map-append codeOf (passing p n) (n ∷ [])) (rising-more (codeOf n) (map codeOf (passing p n)) ih (codes-below n n (omega arith)))
+      go true ih = rw (map-append codeOf (passing p n) (n ∷ [])) (rising-append (codeOf n) (map codeOf (passing p n)) ih (codes-below n n (omega arith)))
       go false ih = rw (append-nil (passing p n)) ih
 
 module _ (w : ℕ → Bool) where
@@ -60,12 +59,12 @@ module _ (w : ℕ → Bool) where
 
   after-day : (t m d : ℕ) → settlesAfter w t m ≡ true → settlementDay w m ≡ On d → t < d
   unfolding settlesAfter
-  after-day t m d e p = ltb-true t d (rw p at (and-both (leb 240 m) (isAfter t (settlementDay w m)) e .1))
+  after-day t m d e p = ltb-true t d (rw p at (and-eq-true-iff (leb 240 m) (isAfter t (settlementDay w m)) .0 e .1))
 
   -- a listed month settles after t
   pub listed-after : (t m d : ℕ) → isListed w t m ≡ true → settlementDay w m ≡ On d → t < d
   unfolding isListed
-  listed-after t m d e p = after-day t m d (and-both (settlesAfter w t m) _ e .0) p
+  listed-after t m d e p = after-day t m d (and-eq-true-iff (settlesAfter w t m) _ .0 e .0) p
 
   -- what has settled by t is not listed on t
   pub settled-never : (t m d : ℕ) → settlementDay w m ≡ On d → d ≤ t → isListed w t m ≡ false
@@ -89,17 +88,17 @@ module _ (w : ℕ → Bool) where
 
   later-settles : (t u m : ℕ) → t ≤ u → settlesAfter w u m ≡ true → settlesAfter w t m ≡ true
   unfolding settlesAfter
-  later-settles t u m h e = let both = and-both (leb 240 m) (isAfter u (settlementDay w m)) e in rw (both .0) (later-after t u h (settlementDay w m) (both .1))
+  later-settles t u m h e = let both = and-eq-true-iff (leb 240 m) (isAfter u (settlementDay w m)) .0 e in rw (both .0) (later-after t u h (settlementDay w m) (both .1))
 
   later-candidate : (t u : ℕ) → t ≤ u → (quarterly : Bool) (m : ℕ) → isCandidate w u quarterly m ≡ true → isCandidate w t quarterly m ≡ true
-  later-candidate t u h true m e = let both = and-both (isQuarterly m) (settlesAfter w u m) e in rw (both .0) (later-settles t u m h (both .1))
-  later-candidate t u h false m e = let both = and-both (not (isQuarterly m)) (settlesAfter w u m) e in rw (both .0) (later-settles t u m h (both .1))
+  later-candidate t u h true m e = let both = and-eq-true-iff (isQuarterly m) (settlesAfter w u m) .0 e in rw (both .0) (later-settles t u m h (both .1))
+  later-candidate t u h false m e = let both = and-eq-true-iff (not (isQuarterly m)) (settlesAfter w u m) .0 e in rw (both .0) (later-settles t u m h (both .1))
 
   -- who is listed stays listed until it settles
   pub stays-listed : (t u m : ℕ) → t ≤ u → isListed w t m ≡ true → settlesAfter w u m ≡ true → isListed w u m ≡ true
   unfolding isListed
   stays-listed t u m h e a =
-      let both = and-both (settlesAfter w t m) (ltb (earlier w t (isQuarterly m) m) (places (isQuarterly m))) e in
+      let both = and-eq-true-iff (settlesAfter w t m) (ltb (earlier w t (isQuarterly m) m) (places (isQuarterly m))) .0 e in
       let fewer = count-more (isCandidate w u (isQuarterly m)) (isCandidate w t (isQuarterly m)) m (later-candidate t u h (isQuarterly m)) in
       rw a (lt-ltb (earlier w u (isQuarterly m) m) (places (isQuarterly m)) (omega (arith, ltb-true (earlier w t (isQuarterly m) m) (places (isQuarterly m)) (both .1))))
 

@@ -1,6 +1,6 @@
 -- What follows for months: codes, lengths, and that settlement days rise.
 use mathlib.Core.Path.{_≡_, refl, sym, ap, _∙_}
-use mathlib.Core.Bool.{Bool, true, false, _&&_, cond}
+use mathlib.Core.Bool.{Bool, true, false, _&&_, cond, and-eq-true-iff}
 use Prim.Native.Nat.{ℕ, zero, suc, _+_, _-_, _*_, _/_, _%_, _≤_, _<_, min}
 use native.Mathlib.Decide.{decLt}
 use native.Mathlib.Omega.{arith}
@@ -11,20 +11,17 @@ use Rattle.days.specs.declared.Day.the-variants.{On, NoDay}
 use Rattle.calendar.specs.declared.month.Month.{Month}
 use Rattle.calendar.specs.declared.month.Coded.the-variants.{Is, NoMonth}
 use Rattle.days.specs.Days.{nextWorking, lastWorking, accepted}
-use Rattle.days.specs.DayLaws.{on-no-day, next-none, first-works, first-within, first-skips, first-misses, first-is, last-works, last-skips, accepted-run, all-off-run}
+use Rattle.days.specs.DayLaws.{on-no-day, next-none, First, first-of, first-misses, first-is, last-of, accepted-off}
 use Rattle.calendar.specs.Months.{isCode, monthOf, codeOf, isShort, monthLength, firstDay, thirdWednesday, settlementDay, beforeThat, lastTradingDay}
 
 -- ---- codes
 
 in-code : (code : ℕ) → isCode code ≡ true → (code < 10000) × ((1 ≤ code % 100) × (code % 100 ≤ 12))
 unfolding isCode
-in-code code e = go (ltb code 10000) (leb 1 (code % 100)) (leb (code % 100) 12) refl refl refl e
-  where
-    go : (a b c : Bool) → ltb code 10000 ≡ a → leb 1 (code % 100) ≡ b → leb (code % 100) 12 ≡ c → a && (b && c) ≡ true → (code < 10000) × ((1 ≤ code % 100) × (code % 100 ≤ 12))
-    go true true true p q r e = (ltb-true _ _ p, (leb-true _ _ q, leb-true _ _ r))
-    go true true false p q r e = let z : _≡_ {A = ℕ} 0 1 = cc in absurd (omega arith)
-    go true false c p q r e = let z : _≡_ {A = ℕ} 0 1 = cc in absurd (omega arith)
-    go false b c p q r e = let z : _≡_ {A = ℕ} 0 1 = cc in absurd (omega arith)
+in-code code e =
+    let a = and-eq-true-iff (ltb code 10000) (leb 1 (code % 100) && leb (code % 100) 12) .0 e in
+    let b = and-eq-true-iff (leb 1 (code % 100)) (leb (code % 100) 12) .0 (a .1) in
+    (ltb-true _ _ (a .0), (leb-true _ _ (b .0), leb-true _ _ (b .1)))
 
 -- a code's month has that code
 pub code-of : (code : ℕ) (m : Month) → monthOf code ≡ Is m → (codeOf (m .number) ≡ code) × (m .number < 1200)
@@ -120,45 +117,40 @@ module _ (w : ℕ → Bool) where
       go (yes u) = on-no-day (sym e ∙ settle-before w m u)
       go (no u) = omega arith
 
-  pub settles-first : (m d : ℕ) → settlementDay w m ≡ On d → nextWorking w (thirdWednesday m) ≡ On d
-  settles-first m d e = sym (settle-in w m (settles-from m d e)) ∙ e
+  -- D is the first working day from the third Wednesday on
+  pub settles-first : (m d : ℕ) → settlementDay w m ≡ On d → First w (thirdWednesday m) (3653 - thirdWednesday m) d
+  settles-first m d e = first-of w _ _ d (sym (settle-in w m (settles-from m d e)) ∙ e)
 
-  pub settles-within : (m d : ℕ) → settlementDay w m ≡ On d → (thirdWednesday m ≤ d) × (d < 3653)
-  settles-within m d e = let r = first-within w _ _ d (settles-first m d e) in (r .0, omega (arith, r))
-
-  pub settles-works : (m d : ℕ) → settlementDay w m ≡ On d → w d ≡ true
-  settles-works m d e = first-works w _ _ d (settles-first m d e)
+  pub settles-below : (m d : ℕ) → settlementDay w m ≡ On d → d < 3653
+  settles-below m d e = let s = settles-first m d e in omega arith
 
   module _ (accept : accepted w ≡ true) where
     -- D is at most 14 days after the third Wednesday
     pub settles-near : (m d : ℕ) → settlementDay w m ≡ On d → d ≤ thirdWednesday m + 14
-    settles-near m d e = go (decLt (thirdWednesday m + 14) d)
+    settles-near m d e = let s = settles-first m d e in go s (decLt (thirdWednesday m + 14) d)
       where
-        go : Dec (thirdWednesday m + 14 < d) → d ≤ thirdWednesday m + 14
-        go (yes u) =
-            let within = settles-within m d e in
-            let off = all-off-run w 15 (thirdWednesday m) (λ k a b. first-skips w _ _ d (settles-first m d e) k a (omega arith)) in
-            absurd (omega (arith, accepted-run w (thirdWednesday m + 15) accept (omega (arith, within))))
-        go (no u) = omega arith
+        go : First w (thirdWednesday m) (3653 - thirdWednesday m) d → Dec (thirdWednesday m + 14 < d) → d ≤ thirdWednesday m + 14
+        go s (yes u) = absurd (accepted-off w accept (thirdWednesday m) (omega arith) (λ k a b. s .skips k a (omega arith)))
+        go s (no u) = omega arith
 
     pub settles-rise : (m n d e : ℕ) → m < n → settlementDay w m ≡ On d → settlementDay w n ≡ On e → d < e
     settles-rise m n d e h p q =
         let z : m + (n - m) ≡ n = omega arith in
-        omega (arith, settles-near m d p, settles-within n e q, apart m (n - m) (settles-from m d p), ap thirdWednesday z)
+        let s = settles-first n e q in
+        omega (arith, settles-near m d p, apart m (n - m) (settles-from m d p), ap thirdWednesday z)
 
     -- each month of the calendar but the last has its D
     pub all-settle : (m : ℕ) → 240 ≤ m → m < 359 → settlementDay w m ≡ NoDay → ⊥
     all-settle m h k e =
         let z : m + (358 - m) ≡ 358 = omega arith in
-        let early : thirdWednesday m + 14 < 3653 = omega (arith, apart m (358 - m) h, ap thirdWednesday z, november) in
-        let off = all-off-run w 15 (thirdWednesday m) (λ i a b. first-misses w _ _ (sym (settle-in w m h) ∙ e) i a (omega arith)) in
-        omega (arith, accepted-run w (thirdWednesday m + 15) accept (omega arith))
+        let early : thirdWednesday m + 15 ≤ 3653 = omega (arith, apart m (358 - m) h, ap thirdWednesday z, november) in
+        accepted-off w accept (thirdWednesday m) early (λ i a b. first-misses w _ _ (sym (settle-in w m h) ∙ e) i a (omega arith))
 
   -- ---- the last trading day
 
   pub trades-before : (m d : ℕ) → settlementDay w m ≡ On d → lastTradingDay w m ≡ lastWorking w d
   unfolding lastTradingDay
-  trades-before m d e = let z : min d 3653 ≡ d = omega (arith, settles-within m d e) in rw (e, z)
+  trades-before m d e = let z : min d 3653 ≡ d = omega (arith, settles-below m d e) in rw (e, z)
 
   pub trades-settles : (m l : ℕ) → lastTradingDay w m ≡ On l → (d : ℕ) × (settlementDay w m ≡ On d)
   unfolding lastTradingDay
@@ -174,9 +166,9 @@ module _ (w : ℕ → Bool) where
       let s = trades-settles m l e in
       let d = s .0 in
       let p : settlementDay w m ≡ On d = s .1 in
-      let q : lastWorking w d ≡ On l = sym (trades-before m d p) ∙ e in
-      let b = last-works w d l q in
-      p ∙ sym (first-is w _ (l + 1) d (omega (arith, b .0)) (omega (arith, settles-within m d p, b .0)) (settles-works m d p) (λ k x y. last-skips w d l q k (omega arith) y))
+      let f = settles-first m d p in
+      let b = last-of w d l (sym (trades-before m d p) ∙ e) in
+      p ∙ sym (first-is w _ (l + 1) d (omega arith) (omega arith) (f .works) (λ k x y. b .skips k (omega arith) y))
 
   -- no two months end on one day
   pub one-ends : accepted w ≡ true → (m n l : ℕ) → lastTradingDay w m ≡ On l → lastTradingDay w n ≡ On l → m ≡ n

@@ -90,44 +90,49 @@ module _ (w : ℕ → Bool) (d : ℕ) where
 pub on-no-day : {A : Type 0} {d : ℕ} → On d ≡ NoDay → A
 on-no-day e = let z : _≡_ {A = ℕ} 0 1 = cc in absurd (omega arith)
 
+-- a day that a search finds: a working day of the n days from d on, with none before it
+pub record First (w : ℕ → Bool) (d n f : ℕ) : Type 0 where
+  pub works : w f ≡ true
+  pub from : d ≤ f
+  pub below : f < d + n
+  pub skips : (k : ℕ) → d ≤ k → k < f → w k ≡ false
+
+-- and one that a search backwards finds
+pub record Last (w : ℕ → Bool) (d f : ℕ) : Type 0 where
+  pub works : w f ≡ true
+  pub below : f < d
+  pub skips : (k : ℕ) → f < k → k < d → w k ≡ false
+
+-- what holds of each day past d, and of d, holds of each from d on
+each-from : {P : ℕ → Type 0} (d f : ℕ) → P d → ((k : ℕ) → d + 1 ≤ k → k < f → P k) → (k : ℕ) → d ≤ k → k < f → P k
+each-from {P} d f p h k a b = go (decLt d k)
+  where
+    go : Dec (d < k) → P k
+    go (yes u) = h k (omega arith) b
+    go (no u) = let z : k ≡ d = omega arith in rw z p
+
 module _ (w : ℕ → Bool) where
-  pub first-works : (n d f : ℕ) → firstWorking w d n ≡ On f → w f ≡ true
+  pub first-of : (n d f : ℕ) → firstWorking w d n ≡ On f → First w d n f
   unfolding firstWorking
-  first-works zero d f e = on-no-day (sym e)
-  first-works (suc n) d f e = go (w d) refl (first-works n (d + 1) f) e
+  first-of zero d f e = on-no-day (sym e)
+  first-of (suc n) d f e = go (w d) refl (first-of n (d + 1) f) e
     where
-      go : (t : Bool) → w d ≡ t → (firstWorking w (d + 1) n ≡ On f → w f ≡ true) → cond t (On d) (firstWorking w (d + 1) n) ≡ On f → w f ≡ true
-      go true p ih q = let z : d ≡ f = cc in rw (← z) p
-      go false p ih q = ih q
-
-  pub first-within : (n d f : ℕ) → firstWorking w d n ≡ On f → (d ≤ f) × (f < d + n)
-  unfolding firstWorking
-  first-within zero d f e = on-no-day (sym e)
-  first-within (suc n) d f e = go (w d) (first-within n (d + 1) f) e
-    where
-      go : (t : Bool) → (firstWorking w (d + 1) n ≡ On f → (d + 1 ≤ f) × (f < d + 1 + n)) → cond t (On d) (firstWorking w (d + 1) n) ≡ On f → (d ≤ f) × (f < d + suc n)
-      go true ih q = let z : d ≡ f = cc in (omega arith, omega arith)
-      go false ih q = let r = ih q in (omega (arith, r), omega (arith, r))
-
-  pub first-skips : (n d f : ℕ) → firstWorking w d n ≡ On f → (k : ℕ) → d ≤ k → k < f → w k ≡ false
-  unfolding firstWorking
-  first-skips zero d f e k a b = on-no-day (sym e)
-  first-skips (suc n) d f e k a b = go (w d) refl (decLt d k) (first-skips n (d + 1) f) e
-    where
-      go : (t : Bool) → w d ≡ t → Dec (d < k) → (firstWorking w (d + 1) n ≡ On f → (k : ℕ) → d + 1 ≤ k → k < f → w k ≡ false) → cond t (On d) (firstWorking w (d + 1) n) ≡ On f → w k ≡ false
-      go true p u ih q = let z : d ≡ f = cc in absurd (omega arith)
-      go false p (yes u) ih q = ih q k (omega arith) b
-      go false p (no u) ih q = let z : k ≡ d = omega arith in rw z p
+      go : (t : Bool) → w d ≡ t → (firstWorking w (d + 1) n ≡ On f → First w (d + 1) n f) → cond t (On d) (firstWorking w (d + 1) n) ≡ On f → First w d (suc n) f
+      go true p ih q =
+          let z : d ≡ f = cc in
+          record { works = rw (← z) p; from = omega arith; below = omega arith; skips = λ k a b. absurd (omega arith) }
+      go false p ih q =
+          let r = ih q in
+          record { works = r .works; from = omega arith; below = omega arith; skips = each-from d f p (r .skips) }
 
   pub first-misses : (n d : ℕ) → firstWorking w d n ≡ NoDay → (k : ℕ) → d ≤ k → k < d + n → w k ≡ false
   unfolding firstWorking
-  first-misses zero d e k a b = absurd (omega arith)
-  first-misses (suc n) d e k a b = go (w d) refl (decLt d k) (first-misses n (d + 1)) e
+  first-misses zero d e = λ k a b. absurd (omega arith)
+  first-misses (suc n) d e = go (w d) refl (first-misses n (d + 1)) e
     where
-      go : (t : Bool) → w d ≡ t → Dec (d < k) → (firstWorking w (d + 1) n ≡ NoDay → (k : ℕ) → d + 1 ≤ k → k < d + 1 + n → w k ≡ false) → cond t (On d) (firstWorking w (d + 1) n) ≡ NoDay → w k ≡ false
-      go true p u ih q = on-no-day q
-      go false p (yes u) ih q = ih q k (omega arith) (omega arith)
-      go false p (no u) ih q = let z : k ≡ d = omega arith in rw z p
+      go : (t : Bool) → w d ≡ t → (firstWorking w (d + 1) n ≡ NoDay → (k : ℕ) → d + 1 ≤ k → k < d + 1 + n → w k ≡ false) → cond t (On d) (firstWorking w (d + 1) n) ≡ NoDay → (k : ℕ) → d ≤ k → k < d + suc n → w k ≡ false
+      go true p ih q = on-no-day q
+      go false p ih q = each-from d (d + suc n) p (λ k a b. ih q k a (omega arith))
 
   -- a working day with none before it is what the search finds
   pub first-is : (n d f : ℕ) → d ≤ f → f < d + n → w f ≡ true → ((k : ℕ) → d ≤ k → k < f → w k ≡ false) → firstWorking w d n ≡ On f
@@ -139,24 +144,22 @@ module _ (w : ℕ → Bool) where
       go (yes u) ih = rw (h d (omega arith) u) (ih (omega arith) (omega arith) p (λ k x y. h k (omega arith) y))
       go (no u) ih = let z : d ≡ f = omega arith in rw (z, p)
 
-  pub last-works : (d f : ℕ) → lastWorking w d ≡ On f → (f < d) × (w f ≡ true)
+  pub last-of : (d f : ℕ) → lastWorking w d ≡ On f → Last w d f
   unfolding lastWorking
-  last-works zero f e = on-no-day (sym e)
-  last-works (suc d) f e = go (w d) refl (last-works d f) e
+  last-of zero f e = on-no-day (sym e)
+  last-of (suc d) f e = go (w d) refl (last-of d f) e
     where
-      go : (t : Bool) → w d ≡ t → (lastWorking w d ≡ On f → (f < d) × (w f ≡ true)) → cond t (On d) (lastWorking w d) ≡ On f → (f < suc d) × (w f ≡ true)
-      go true p ih q = let z : d ≡ f = cc in (omega arith, rw (← z) p)
-      go false p ih q = let r = ih q in (omega (arith, r .0), r .1)
-
-  pub last-skips : (d f : ℕ) → lastWorking w d ≡ On f → (k : ℕ) → f < k → k < d → w k ≡ false
-  unfolding lastWorking
-  last-skips zero f e k a b = on-no-day (sym e)
-  last-skips (suc d) f e k a b = go (w d) refl (decLt k d) (last-skips d f) e
-    where
-      go : (t : Bool) → w d ≡ t → Dec (k < d) → (lastWorking w d ≡ On f → (k : ℕ) → f < k → k < d → w k ≡ false) → cond t (On d) (lastWorking w d) ≡ On f → w k ≡ false
-      go true p u ih q = let z : d ≡ f = cc in absurd (omega arith)
-      go false p (yes u) ih q = ih q k a u
-      go false p (no u) ih q = let z : k ≡ d = omega arith in rw z p
+      go : (t : Bool) → w d ≡ t → (lastWorking w d ≡ On f → Last w d f) → cond t (On d) (lastWorking w d) ≡ On f → Last w (suc d) f
+      go true p ih q =
+          let z : d ≡ f = cc in
+          record { works = rw (← z) p; below = omega arith; skips = λ k a b. absurd (omega arith) }
+      go false p ih q =
+          let r = ih q in
+          record { works = r .works; below = omega arith; skips = λ k a b. up-to k a (decLt k d) (r .skips k a) b }
+        where
+          up-to : (k : ℕ) → f < k → Dec (k < d) → (k < d → w k ≡ false) → k < suc d → w k ≡ false
+          up-to k a (yes u) h b = h u
+          up-to k a (no u) h b = let z : k ≡ d = omega arith in rw z p
 
   -- where there is a working day before d, the last one is found, and not before it
   pub last-finds : (d k : ℕ) → k < d → w k ≡ true → (l : ℕ) × ((lastWorking w d ≡ On l) × (k ≤ l))
@@ -206,7 +209,7 @@ module _ (w : ℕ → Bool) where
       go false p (no v) q ih = let z : k ≡ d = omega arith in rw z p
 
   -- n days off from d on are in the run that ends with them
-  pub all-off-run : (n d : ℕ) → ((k : ℕ) → d ≤ k → k < d + n → w k ≡ false) → n ≤ offRun w (d + n)
+  all-off-run : (n d : ℕ) → ((k : ℕ) → d ≤ k → k < d + n → w k ≡ false) → n ≤ offRun w (d + n)
   all-off-run zero d h = omega arith
   all-off-run (suc n) d h =
       let z : d + suc n ≡ d + n + 1 = omega arith in
@@ -272,7 +275,7 @@ module _ (w : ℕ → Bool) where
       go true p = let q = no-break-stop d n h p in sym e ∙ q
       go false p = refl
 
-  pub accepted-run : (d : ℕ) → accepted w ≡ true → d ≤ days → offRun w d ≤ 14
+  accepted-run : (d : ℕ) → accepted w ≡ true → d ≤ days → offRun w d ≤ 14
   accepted-run d a h = go (decLt 14 (offRun w d))
     where
       go : Dec (14 < offRun w d) → offRun w d ≤ 14
@@ -283,3 +286,6 @@ module _ (w : ℕ → Bool) where
           let c = no-break-at (d - 15) (days - 14) (omega arith) a in
           absurd (false≢true (sym c ∙ b))
       go (no u) = omega arith
+
+  pub accepted-off : accepted w ≡ true → (d : ℕ) → d + 15 ≤ days → ((k : ℕ) → d ≤ k → k < d + 15 → w k ≡ false) → ⊥
+  accepted-off a d h off = omega (arith, all-off-run 15 d off, accepted-run (d + 15) a h)

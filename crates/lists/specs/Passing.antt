@@ -1,13 +1,12 @@
 -- The numbers below n that pass a test, in rising order; and a test of all elements of a list.
 use mathlib.Core.Path.{_≡_, refl, sym, ap, _∙_}
-use mathlib.Core.Bool.{Bool, true, false, _&&_, cond}
+use mathlib.Core.Bool.{Bool, true, false, _&&_, cond, and-eq-true-iff}
 use mathlib.Core.List.{List, [], _∷_, _++_, append-nil}
 use Prim.Native.Nat.{ℕ, zero, suc, _+_, _-_, _≤_, _<_}
 use native.Mathlib.Numerals.{add-one}
 use native.Mathlib.Decide.{decLt}
 use native.Mathlib.Omega.{arith}
 use lib.ListN.{length, length-append}
-use Rattle.lists.specs.Tests.{and-both}
 
 unfoldable pub passing : (ℕ → Bool) → ℕ → List ℕ
 passing p zero = []
@@ -16,6 +15,10 @@ passing p (suc n) = passing p n ++ cond (p n) (n ∷ []) []
 unfoldable pub all : (ℕ → Bool) → List ℕ → Bool
 all test [] = true
 all test (x ∷ rest) = test x && all test rest
+
+pub passing-zero : (p : ℕ → Bool) → passing p 0 ≡ []
+unfolding passing
+passing-zero p = refl
 
 -- ---- one number more
 
@@ -60,7 +63,7 @@ module _ (p : ℕ → Bool) where
 
 -- a weaker test passes at least as many
 pub count-more : (p q : ℕ → Bool) (n : ℕ) → ((k : ℕ) → p k ≡ true → q k ≡ true) → length (passing p n) ≤ length (passing q n)
-count-more p q zero h = let e = ap length (passing-none p 0 (λ k i. absurd (omega arith))) in omega arith
+count-more p q zero h = rw (passing-zero p, passing-zero q) (omega arith)
 count-more p q (suc n) h = rw (sym (add-one n), count-step p n, count-step q n) (go (p n) refl (count-more p q n h))
   where
     go : (t : Bool) → p n ≡ t → length (passing p n) ≤ length (passing q n) → length (passing p n) + cond t 1 0 ≤ length (passing q n) + cond (q n) 1 0
@@ -83,9 +86,9 @@ pub all-passing : (test p : ℕ → Bool) (n k : ℕ) → all test (passing p n)
 unfolding all passing
 all-passing test p zero k a h e = absurd (omega arith)
 all-passing test p (suc n) k a h e =
-    let both = and-both _ _ (sym (all-append test (passing p n) (cond (p n) (n ∷ []) [])) ∙ a) in
+    let both = and-eq-true-iff _ _ .0 (sym (all-append test (passing p n) (cond (p n) (n ∷ []) [])) ∙ a) in
     go (decLt k n) both (all-passing test p n k (both .0))
   where
     go : Dec (k < n) → (all test (passing p n) ≡ true) × (all test (cond (p n) (n ∷ []) []) ≡ true) → (k < n → p k ≡ true → test k ≡ true) → test k ≡ true
     go (yes u) both ih = ih u e
-    go (no u) both ih = let z : n ≡ k = omega arith in and-both (test k) true (rw (z, e) at (both .1)) .0
+    go (no u) both ih = let z : n ≡ k = omega arith in and-eq-true-iff (test k) true .0 (rw (z, e) at (both .1)) .0

@@ -1,11 +1,12 @@
 -- A table's rule by one computation: a test that passes at every entry of a list holds at each of its places.
 use mathlib.Core.Path.{sym, _∙_, subst}
-use mathlib.Core.Bool.{Bool, true, false, _&&_}
+use mathlib.Core.Bool.{Bool, true, _&&_}
 use mathlib.Core.List.{List, [], _∷_}
 use Prim.Native.Nat.{ℕ, zero, suc, _+_, _<_}
 use native.Mathlib.Nat.{zero-add, suc-add, add-suc, add-zero}
 use native.Mathlib.Omega.{arith}
 use lib.Dec.{T}
+use lib.Ieee.Fits.{and-l, and-r}
 use lib.ListN.{length, getD}
 
 -- the test at each entry with its place, the first entry's place being `place`
@@ -13,17 +14,13 @@ abbrev pub every : (ℕ → ℕ → Bool) → ℕ → List ℕ → Bool
 every test place [] = true
 every test place (x ∷ rest) = test place x && every test (suc place) rest
 
-both : (a b : Bool) → T (a && b) → T a × T b
-both true b t = (tt, t)
-both false b t = absurd t
-
 module _ (test : ℕ → ℕ → Bool) where
   along : (table : List ℕ) (place k : ℕ) → T (every test place table) → k < length table → T (test (place + k) (getD table k 0))
   along [] place k t h = absurd (omega arith)
-  along (x ∷ rest) place zero t h = subst (λ (n : ℕ). T (test n x)) (sym (add-zero place)) (both (test place x) (every test (suc place) rest) t .0)
+  along (x ∷ rest) place zero t h = subst (λ (n : ℕ). T (test n x)) (sym (add-zero place)) (and-l (test place x) (every test (suc place) rest) t)
   along (x ∷ rest) place (suc k) t h =
       subst (λ (n : ℕ). T (test n (getD rest k 0))) (suc-add place k ∙ sym (add-suc place k))
-      (along rest (suc place) k (both (test place x) (every test (suc place) rest) t .1) (omega arith))
+      (along rest (suc place) k (and-r (test place x) (every test (suc place) rest) t) (omega arith))
 
   pub at-each : (table : List ℕ) → T (every test 0 table) → (k : ℕ) → k < length table → T (test k (getD table k 0))
   at-each table t k h = subst (λ (n : ℕ). T (test n (getD table k 0))) (zero-add k) (along table 0 k t h)
