@@ -1,0 +1,76 @@
+-- Putting the whole number is putting the groups that are left.
+use lib.ListN.{length, length-set}
+use native.Mathlib.Omega.{arith}
+use mathlib.Core.Path.{_≡_, refl, sym, ap, _∙_}
+use Prim.Native.Nat.{ℕ, suc, _+_, _/_, _%_, _^_, _<_}
+use Rattle.numbers.specs.Seven.{groups, encode}
+use Rattle.numbers.specs.SevenLaws.{left, groups-some, groups-last}
+use Rattle.numbers.specs.Put.{put, put-one, put-cons}
+use Rattle.numbers.proofs.write_number.Statement.{statement}
+use Rattle.numbers.proofs.write_number.Tie as tie
+
+abbrev Inv-loop : tie.InvT-loop
+Inv-loop room₀ at n left₀ i₀ room left i =
+    (k : ℕ) × (left < 128 ^ suc k) × (i + length (groups (suc k) left) ≡ at + length (encode n)) × (length room ≡ length room₀) × (put room₀ at (encode n) ≡ put room i (groups (suc k) left))
+
+abbrev μ-loop : tie.MeasureT-loop
+μ-loop room₀ at n left₀ i₀ room left i = left
+
+loop-holds : tie.Need-loop-holds Inv-loop μ-loop
+loop-holds c = (9, omega arith, refl, refl, refl)
+
+add-room : tie.Need-add-room Inv-loop μ-loop
+add-room c = omega arith
+
+cast-room : tie.Need-cast-room Inv-loop μ-loop
+cast-room c = omega arith
+
+slice-write-room : tie.Need-slice-write-room Inv-loop μ-loop
+slice-write-room c = let l = c .before in let v = l .loop .inv in let some = groups-some (v .0) (l .loop .left) in omega (arith, v .2, v .3)
+
+add-i : tie.Need-add-i Inv-loop μ-loop
+add-i c = let l = c .before in let v = l .loop .inv in let some = groups-some (v .0) (l .loop .left) in omega (arith, v .2, v .3)
+
+loop-less : tie.Need-loop-less Inv-loop μ-loop
+loop-less c = omega arith
+
+loop-again : tie.Need-loop-again Inv-loop μ-loop
+loop-again c = let l = c .before in let v = l .loop .inv in let some = groups-some (v .0) (l .loop .left) in
+    let g = left (v .0) _ (v .1) (c .loop-test .taken) in
+    (g .fewer, g .fits, omega (arith, ap length (g .is), v .2), simp length-set (v .3), v .4 ∙ rw (g .is) (put-cons (l .loop .room) (l .loop .i) (l .loop .left % 128 + 128) (groups (suc (g .fewer)) (l .loop .left / 128)) (omega (arith, v .2, v .3))))
+
+cast-room-2 : tie.Need-cast-room-2 Inv-loop μ-loop
+cast-room-2 c = omega arith
+
+slice-write-room-2 : tie.Need-slice-write-room-2 Inv-loop μ-loop
+slice-write-room-2 c = let l = c .before in let v = l .loop .inv in let some = groups-some (v .0) (l .loop .left) in omega (arith, v .2, v .3)
+
+add-result : tie.Need-add-result Inv-loop μ-loop
+add-result c = let l = c .before in let v = l .loop .inv in let some = groups-some (v .0) (l .loop .left) in omega (arith, v .2, v .3)
+
+same-length : tie.Need-same-length Inv-loop μ-loop
+same-length c = let l = c .before in let v = l .loop .inv in let some = groups-some (v .0) (l .loop .left) in simp length-set (v .3)
+
+returns : tie.Need-returns Inv-loop μ-loop
+returns c = let l = c .before in let v = l .loop .inv in let some = groups-some (v .0) (l .loop .left) in
+    let e = groups-last (v .0) _ (c .loop-test .left) in
+    (omega (arith, v .2, ap length e), put-one (l .loop .room) (l .loop .i) (l .loop .left) (omega (arith, v .2, v .3)) ∙ ap (λ xs. put (l .loop .room) (l .loop .i) xs) (sym e) ∙ sym (v .4))
+
+pub write-number-spec : {M : Type 1} → statement M
+write-number-spec =
+    tie.close
+    (tie.spec
+    Inv-loop
+    μ-loop
+    loop-holds
+    add-room
+    cast-room
+    slice-write-room
+    add-i
+    loop-less
+    loop-again
+    cast-room-2
+    slice-write-room-2
+    add-result
+    same-length
+    returns)
