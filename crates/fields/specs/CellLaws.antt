@@ -1,0 +1,106 @@
+-- What follows for cells: the steps by which the code walks, ranges as written, and that in range cell by cell is in range.
+use mathlib.Core.Path.{_≡_, refl, sym, ap, _∙_}
+use mathlib.Core.Bool.{Bool, true, false, _&&_, and-assoc}
+use mathlib.Core.List.{List, [], _∷_, map}
+use Prim.Native.Nat.{ℕ, zero, suc, _+_, _≤_, _<_}
+use native.Mathlib.Numerals.{add-one}
+use native.Mathlib.Decide.{ℕ-discrete}
+use native.Mathlib.Omega.{arith}
+use lib.Dec.{leb, leb·zero}
+use lib.ListN.{length, getD, drop, drop-of-length-le}
+use lib.Seq.{drop-cons}
+use borrow.Author.Tests.{le-leb, lt-leb, ne-eqb}
+use Rattle.lists.specs.Table.{every}
+use Rattle.lists.specs.Passing.{all}
+use Rattle.fields.specs.declared.ranges.Row.{Row}
+use Rattle.fields.specs.Fields.{Quantity, ceilings, withinCeilings, isZero, kinds, fieldsOf, allWithin}
+use Rattle.fields.specs.FieldLaws.{within-written}
+use Rattle.fields.specs.Cells.{cellWithin, cellsWithin, least, greatest, ends, row}
+
+-- ---- lists, walked from the front: what is left decides
+
+module _ (test : ℕ → Bool) (l : List ℕ) (i : ℕ) where
+  pub all-more : i < length l → test (getD l i 0) ≡ true → all test (drop i l) ≡ all test (drop (i + 1) l)
+  unfolding all
+  all-more h e = rw (drop-cons l i 0 h, e, add-one)
+
+  pub all-stop : i < length l → test (getD l i 0) ≡ false → all test (drop i l) ≡ false
+  unfolding all
+  all-stop h e = rw (drop-cons l i 0 h, e)
+
+  pub all-end : length l ≤ i → all test (drop i l) ≡ true
+  unfolding all
+  all-end h = rw (drop-of-length-le l h)
+
+module _ (test : ℕ → ℕ → Bool) (l : List ℕ) (i : ℕ) where
+  pub every-more : i < length l → test i (getD l i 0) ≡ true → every test i (drop i l) ≡ every test (i + 1) (drop (i + 1) l)
+  every-more h e = rw (drop-cons l i 0 h, e, add-one)
+
+  pub every-stop : i < length l → test i (getD l i 0) ≡ false → every test i (drop i l) ≡ false
+  every-stop h e = rw (drop-cons l i 0 h, e)
+
+  pub every-end : length l ≤ i → every test i (drop i l) ≡ true
+  every-end h = rw (drop-of-length-le l h)
+
+pub getD-map-below : {X Y : Type 0} (f : X → Y) (l : List X) (i : ℕ) (d : X) (e : Y) → i < length l → getD (map f l) i e ≡ f (getD l i d)
+getD-map-below f [] i d e h = absurd (omega arith)
+getD-map-below f (x ∷ l) zero d e h = refl
+getD-map-below f (x ∷ l) (suc i) d e h = getD-map-below f l i d e (omega arith)
+
+-- ---- ranges as written
+
+-- a cell past the kind's fields goes from 0 to 0
+zero-written : (n : ℕ) → isZero n ≡ leb 0 n && leb n 0
+zero-written n = go (ℕ-discrete n 0)
+  where
+    go : Dec (n ≡ 0) → isZero n ≡ leb 0 n && leb n 0
+    go (yes e) = rw e
+    go (no e) = rw (ne-eqb n 0 e, leb·zero n, lt-leb n 0 (omega arith))
+
+-- a cell holds what is between the two ends at its place
+pub cell-between : (cells : ℕ) (quantities : List Quantity) (place n : ℕ) → place < cells → cellWithin quantities place n ≡ leb (getD (ends least quantities cells) place 0) n && leb n (getD (ends greatest quantities cells) place 0)
+unfolding cellWithin ends
+cell-between zero quantities place n h = absurd (omega arith)
+cell-between (suc cells) [] zero n h = zero-written n
+cell-between (suc cells) [] (suc place) n h = cell-between cells [] place n (omega arith)
+cell-between (suc cells) (q ∷ more) zero n h = within-written (ceilings q) n
+cell-between (suc cells) (q ∷ more) (suc place) n h = cell-between cells more place n (omega arith)
+
+-- ---- the code's table: a row for each kind
+
+module _ (table : List Row) (kind place n : ℕ) (d : Row) (known : kind < 13) (inside : place < 13) where
+  abbrev bottom : ℕ
+  bottom = getD (getD table kind d .least) place 0
+
+  abbrev top : ℕ
+  top = getD (getD table kind d .greatest) place 0
+
+  in-row : table ≡ map row kinds → cellWithin (fieldsOf kind) place n ≡ leb bottom n && leb n top
+  unfolding kinds
+  in-row e = rw (e, getD-map-below row kinds kind [] d known) (cell-between 13 (fieldsOf kind) place n inside)
+
+  pub under-row : n < bottom → table ≡ map row kinds → false ≡ cellWithin (fieldsOf kind) place n
+  under-row h e = sym (in-row e ∙ rw (lt-leb bottom n h))
+
+  pub from-row : bottom ≤ n → table ≡ map row kinds → leb n top ≡ cellWithin (fieldsOf kind) place n
+  from-row h e = sym (in-row e ∙ rw (le-leb bottom n h))
+
+-- ---- in range cell by cell
+
+shifted : (q : Quantity) (more : List Quantity) (cells : List ℕ) (i : ℕ) → every (cellWithin (q ∷ more)) (suc i) cells ≡ every (cellWithin more) i cells
+unfolding cellWithin
+shifted q more [] i = refl
+shifted q more (n ∷ cells) i = ap (λ t. cellWithin more i n && t) (shifted q more cells (suc i))
+
+all-zero : (cells : List ℕ) (i : ℕ) → every (cellWithin []) i cells ≡ all isZero cells
+unfolding cellWithin all
+all-zero [] i = refl
+all-zero (n ∷ cells) i = ap (λ t. isZero n && t) (all-zero cells (suc i))
+
+pub cells-are : (quantities : List Quantity) (cells : List ℕ) → length quantities ≤ length cells → cellsWithin quantities cells ≡ allWithin quantities cells && all isZero (drop (length quantities) cells)
+unfolding cellWithin allWithin
+cells-are [] cells h = all-zero cells 0
+cells-are (q ∷ more) [] h = absurd (omega arith)
+cells-are (q ∷ more) (n ∷ cells) h =
+    ap (λ t. withinCeilings q n && t) (shifted q more cells 0 ∙ cells-are more cells (omega arith))
+    ∙ sym (and-assoc (withinCeilings q n) (allWithin more cells) (all isZero (drop (length more) cells)))

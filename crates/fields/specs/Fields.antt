@@ -1,0 +1,148 @@
+-- Records: what document 01, 'Units and ceilings', 'Event records' and 'Refusal numbers', says of kinds and fields.
+use mathlib.Core.Bool.{Bool, true, false, _&&_, cond}
+use mathlib.Core.List.{List, [], _∷_, map}
+use Prim.Native.Nat.{ℕ, _^_}
+use lib.Dec.{eqb, leb, ltb}
+use lib.IntN.{ℤ, pos, negℤ}
+use lib.ListN.{length, getD, drop}
+use lib.Signed.{leZ}
+use Rattle.days.specs.Days.{rising}
+use Rattle.lists.specs.Passing.{all}
+use Rattle.fields.specs.declared.kinds.Count.{Count}
+use Rattle.fields.specs.declared.kinds.Count.the-variants.{Of, Unknown}
+use Rattle.fields.specs.declared.ranges.Checked.{Checked}
+use Rattle.fields.specs.declared.ranges.Checked.the-variants.{Passed, Refused}
+use Rattle.fields.specs.Fold.{unfolded}
+
+-- ---- what a field holds
+
+pub data Quantity : Type 0 where
+  account lots marginRate referenceRate clearingLimit tolerance specialMargin amount : Quantity
+  multiplier day time code side rate exceptionCount : Quantity
+
+-- numbers from a to b without a sign, or signed numbers from -b to b
+pub data Ceilings : Type 0 where
+  between : ℕ → ℕ → Ceilings
+  signedTo : ℕ → Ceilings
+
+-- 'Units and ceilings', a line a quantity; "Signed fields (rates, but not margin or reference rates)";
+-- "A start record lists up to 400 exception days"
+unfoldable pub ceilings : Quantity → Ceilings
+ceilings account = between 1 9999999
+ceilings lots = between 1 1000
+ceilings marginRate = between 1 100000000
+ceilings referenceRate = between 1 100000000
+ceilings clearingLimit = between 0 1000000
+ceilings tolerance = between 0 (10 ^ 14)
+ceilings specialMargin = between 0 (10 ^ 14)
+ceilings amount = between 1 (10 ^ 14)
+ceilings multiplier = between 100 1000
+ceilings day = between 0 3652
+ceilings time = between 0 86399
+ceilings code = between 0 9999
+ceilings side = between 0 1
+ceilings rate = signedTo 100000
+ceilings exceptionCount = between 0 400
+
+abbrev pub lowest : Ceilings → ℤ
+lowest (between a b) = pos a
+lowest (signedTo b) = negℤ (pos b)
+
+abbrev pub highest : Ceilings → ℤ
+highest (between a b) = pos b
+highest (signedTo b) = pos b
+
+abbrev pub hasSign : Ceilings → Bool
+hasSign (between a b) = false
+hasSign (signedTo b) = true
+
+-- the number that a written one stands for: "Signed fields .. are folded first"
+abbrev pub meant : Ceilings → ℕ → ℤ
+meant (between a b) n = pos n
+meant (signedTo b) n = unfolded n
+
+abbrev pub from : Quantity → ℤ
+from q = lowest (ceilings q)
+
+abbrev pub to : Quantity → ℤ
+to q = highest (ceilings q)
+
+abbrev pub isSigned : Quantity → Bool
+isSigned q = hasSign (ceilings q)
+
+abbrev pub value : Quantity → ℕ → ℤ
+value q n = meant (ceilings q) n
+
+-- "field out of range": the number meant is not from the quantity's least to its greatest
+abbrev pub withinCeilings : Quantity → ℕ → Bool
+withinCeilings q n = leZ (from q) (value q n) && leZ (value q n) (to q)
+
+-- ---- kinds
+
+-- "A record is a kind and its fields": the table of 'Event records', a line a kind
+unfoldable pub kinds : List (List Quantity)
+kinds =
+    (referenceRate ∷ multiplier ∷ exceptionCount ∷ []) ∷
+    (account ∷ clearingLimit ∷ tolerance ∷ []) ∷
+    (account ∷ amount ∷ []) ∷
+    (account ∷ amount ∷ []) ∷
+    (account ∷ amount ∷ []) ∷
+    (account ∷ specialMargin ∷ []) ∷
+    (account ∷ clearingLimit ∷ tolerance ∷ []) ∷
+    (day ∷ rate ∷ rate ∷ rate ∷ rate ∷ rate ∷ rate ∷ marginRate ∷ marginRate ∷ marginRate ∷ marginRate ∷ marginRate ∷ marginRate ∷ []) ∷
+    (time ∷ code ∷ account ∷ account ∷ lots ∷ rate ∷ []) ∷
+    (time ∷ code ∷ side ∷ rate ∷ []) ∷
+    [] ∷
+    [] ∷
+    (rate ∷ []) ∷ []
+
+-- an unknown kind has no fields
+abbrev pub fieldsOf : ℕ → List Quantity
+fieldsOf kind = getD kinds kind []
+
+abbrev pub known : ℕ → Bool
+known kind = ltb kind (length kinds)
+
+abbrev pub count : ℕ → ℕ
+count kind = length (fieldsOf kind)
+
+abbrev pub countOf : ℕ → Count
+countOf kind = cond (known kind) (Of (count kind)) Unknown
+
+-- whether a field of a kind is a signed one; past the kind's fields there is none
+abbrev pub signedAt : ℕ → ℕ → Bool
+signedAt kind field = getD (map isSigned (fieldsOf kind)) field false
+
+-- ---- records. The fields stand first in a list, with zeros after them
+
+-- "0 start: reference rate, multiplier, number of exceptions, the exceptions"
+abbrev pub announced : ℕ → List ℕ → ℕ
+announced kind fields = cond (eqb kind 0) (getD fields 2 0) 0
+
+abbrev pub isZero : ℕ → Bool
+isZero n = eqb n 0
+
+-- What a record's bytes can say: "unknown kind, over 400 exceptions" are refused under 1
+abbrev pub shaped : ℕ → List ℕ → ℕ → Bool
+shaped kind fields exceptions =
+    known kind && (all isZero (drop (count kind) fields) && (leb (announced kind fields) 400 && eqb exceptions (announced kind fields)))
+
+-- each field within its quantity's ceilings
+unfoldable pub allWithin : List Quantity → List ℕ → Bool
+allWithin [] fields = true
+allWithin (q ∷ more) [] = false
+allWithin (q ∷ more) (n ∷ fields) = withinCeilings q n && allWithin more fields
+
+-- "All fields are range-checked, also those not used"; "strictly rising"
+abbrev pub inRange : ℕ → List ℕ → List ℕ → Bool
+inRange kind fields exceptions =
+    shaped kind fields (length exceptions) && (allWithin (fieldsOf kind) fields && (all (withinCeilings day) exceptions && rising exceptions))
+
+-- "2: field out of range, or exceptions not rising"
+abbrev pub checked : ℕ → List ℕ → List ℕ → Checked
+checked kind fields exceptions = cond (inRange kind fields exceptions) Passed (Refused 2)
+
+-- the refusal's number in document 01, 0 for none
+abbrev pub refusalOf : Checked → ℕ
+refusalOf Passed = 0
+refusalOf (Refused n) = n
