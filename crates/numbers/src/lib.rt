@@ -87,14 +87,14 @@ pub fn write_number(room: &mut [u8], at: usize, n: u64) -> usize
     requires { ⌜ at + length (encode n) ≤ length (now room) ⌝ }
     ensures { λ r. ⌜ (r ≡ at + length (encode n)) × (now (room .exit) ≡ put (now (room .entry)) at (encode n)) ⌝ }
 {
-    let mut left = n;
+    let mut rest = n;
     let mut i = at;
-    while 128 <= left {
-        room[i] = (left % 128 + 128) as u8;
-        left = left / 128;
+    while 128 <= rest {
+        room[i] = (rest % 128 + 128) as u8;
+        rest = rest / 128;
         i += 1;
     }
-    room[i] = left as u8;
+    room[i] = rest as u8;
     i + 1
 }
 
