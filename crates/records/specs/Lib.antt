@@ -4,5 +4,7 @@ pub mod Reading
 pub mod ReadingLaws
 pub mod Writing
 pub mod WritingLaws
+pub mod Outcomes
+pub mod OutcomeLaws
 pub mod Files
 pub mod Examples

@@ -42,8 +42,3 @@ placed s at (parsed e rest) = recordAt (length s - length rest) (e .kind) (padde
 -- the record at a place; "a place at or past the end is a record cut short"
 abbrev pub readingAt : List ℕ → ℕ → Reading
 readingAt s at = placed s at (reading (drop at s))
-
--- document 01's number for each answer: 0 for a record that was read
-abbrev pub refusalOf : Answer → ℕ
-refusalOf (Next next) = 0
-refusalOf (Malformed place) = 1

@@ -29,9 +29,3 @@ writtenTo room bytes = cond (ltb (length room) (length bytes)) (out NoRoom room)
 unfoldable pub writtenIn : List ℕ → ℕ → List ℕ → List ℕ → Out
 writtenIn room kind fields exceptions =
     cond (shaped kind fields (length exceptions)) (writtenTo room (writing (entryOf kind fields exceptions))) (out (Malformed 0) room)
-
--- document 01's number for each answer: 0 for a record that was written
-abbrev pub refusalOf : Written → ℕ
-refusalOf (Done length) = 0
-refusalOf (Malformed place) = 1
-refusalOf NoRoom = 16
