@@ -42,7 +42,7 @@ module _ (test : ℕ → ℕ → Bool) (l : List ℕ) (i : ℕ) where
   pub every-end : length l ≤ i → every test i (drop i l) ≡ true
   every-end h = rw (drop-of-length-le l h)
 
-pub getD-map-below : {X Y : Type 0} (f : X → Y) (l : List X) (i : ℕ) (d : X) (e : Y) → i < length l → getD (map f l) i e ≡ f (getD l i d)
+getD-map-below : {X Y : Type 0} (f : X → Y) (l : List X) (i : ℕ) (d : X) (e : Y) → i < length l → getD (map f l) i e ≡ f (getD l i d)
 getD-map-below f [] i d e h = absurd (omega arith)
 getD-map-below f (x ∷ l) zero d e h = refl
 getD-map-below f (x ∷ l) (suc i) d e h = getD-map-below f l i d e (omega arith)
@@ -58,7 +58,7 @@ zero-written n = go (ℕ-discrete n 0)
     go (no e) = rw (ne-eqb n 0 e, leb·zero n, lt-leb n 0 (omega arith))
 
 -- a cell holds what is between the two ends at its place
-pub cell-between : (cells : ℕ) (quantities : List Quantity) (place n : ℕ) → place < cells → cellWithin quantities place n ≡ leb (getD (ends least quantities cells) place 0) n && leb n (getD (ends greatest quantities cells) place 0)
+cell-between : (cells : ℕ) (quantities : List Quantity) (place n : ℕ) → place < cells → cellWithin quantities place n ≡ leb (getD (ends least quantities cells) place 0) n && leb n (getD (ends greatest quantities cells) place 0)
 unfolding cellWithin ends
 cell-between zero quantities place n h = absurd (omega arith)
 cell-between (suc cells) [] zero n h = zero-written n

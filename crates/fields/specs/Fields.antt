@@ -16,6 +16,7 @@ use Rattle.fields.specs.Fold.{unfolded}
 
 -- ---- what a field holds
 
+-- the quantities of 'Units and ceilings' that a record holds, and the number of exceptions
 pub data Quantity : Type 0 where
   account lots marginRate referenceRate clearingLimit tolerance specialMargin amount : Quantity
   multiplier day time code side rate exceptionCount : Quantity
@@ -25,7 +26,7 @@ pub data Ceilings : Type 0 where
   between : ℕ → ℕ → Ceilings
   signedTo : ℕ → Ceilings
 
--- 'Units and ceilings', a line a quantity; "Signed fields (rates, but not margin or reference rates)";
+-- 'Units and ceilings', a line a quantity; "A rate is a signed whole number of 0.0001%, from -100,000 to 100,000";
 -- "A start record lists up to 400 exception days"
 unfoldable pub ceilings : Quantity → Ceilings
 ceilings account = between 1 9999999
@@ -44,6 +45,7 @@ ceilings side = between 0 1
 ceilings rate = signedTo 100000
 ceilings exceptionCount = between 0 400
 
+-- the table's two columns, "from" and "to"
 abbrev pub lowest : Ceilings → ℤ
 lowest (between a b) = pos a
 lowest (signedTo b) = negℤ (pos b)
@@ -52,6 +54,7 @@ abbrev pub highest : Ceilings → ℤ
 highest (between a b) = pos b
 highest (signedTo b) = pos b
 
+-- "Signed fields (rates, but not margin or reference rates)"
 abbrev pub hasSign : Ceilings → Bool
 hasSign (between a b) = false
 hasSign (signedTo b) = true
@@ -119,10 +122,11 @@ signedAt kind field = getD (map isSigned (fieldsOf kind)) field false
 abbrev pub announced : ℕ → List ℕ → ℕ
 announced kind fields = cond (eqb kind 0) (getD fields 2 0) 0
 
+-- what stands past a kind's fields
 abbrev pub isZero : ℕ → Bool
 isZero n = eqb n 0
 
--- What a record's bytes can say: "unknown kind, over 400 exceptions" are refused under 1
+-- What bytes can say: "unknown kind, over 400 exceptions" are refused under 1
 abbrev pub shaped : ℕ → List ℕ → ℕ → Bool
 shaped kind fields exceptions =
     known kind && (all isZero (drop (count kind) fields) && (leb (announced kind fields) 400 && eqb exceptions (announced kind fields)))
@@ -138,7 +142,7 @@ abbrev pub inRange : ℕ → List ℕ → List ℕ → Bool
 inRange kind fields exceptions =
     shaped kind fields (length exceptions) && (allWithin (fieldsOf kind) fields && (all (withinCeilings day) exceptions && rising exceptions))
 
--- "2: field out of range, or exceptions not rising"
+-- Number 2 is "field out of range, or exceptions not rising"
 abbrev pub checked : ℕ → List ℕ → List ℕ → Checked
 checked kind fields exceptions = cond (inRange kind fields exceptions) Passed (Refused 2)
 

@@ -69,7 +69,8 @@ fn are_zero(fields: [u64; WIDTH], first: usize) -> bool
     true
 }
 
-// Whether a record's bytes can say this: a known kind, nothing past its fields, and the exceptions that it announces, at most 400.
+// Whether bytes can say this record: a known kind, nothing past its fields, and the exceptions that it announces, at
+// most 400.
 pub fn is_shaped(kind: u64, fields: [u64; WIDTH], exceptions: usize) -> bool
     ensures { λ r. ⌜ r ≡ shaped kind fields exceptions ⌝ }
 {

@@ -8,7 +8,7 @@ use crate::kinds::WIDTH;
 use crate::kinds::is_shaped;
 use days::are_rising;
 
-// Whether a record's fields are in range, or the refusal's number.
+// What the range check answers: passed, or the refusal's number.
 pub enum Checked {
     Passed,
     Refused(u64),
@@ -146,7 +146,7 @@ const RANGES: [Row; 13] = [
     },
 ];
 
-// Whether a number may stand in a cell of a kind's row.
+// Whether a number is from the least to the greatest of its cell.
 fn is_in_cell(kind: usize, field: usize, n: u64) -> bool
     requires { ⌜ (kind < 13) × (field < 13) ⌝ }
     ensures { λ r. ⌜ r ≡ cellWithin (fieldsOf kind) field n ⌝ }
@@ -187,7 +187,8 @@ fn are_days(exceptions: &[u64]) -> bool
     true
 }
 
-// Whether a record may be handed to the book: its shape, its fields, and its exceptions, which are days that rise.
+// Whether a record's fields are in range and its exceptions are days that rise.
+// A record that no bytes can say is out of range too; who reads or writes bytes asks `is_shaped` first.
 pub fn in_range(kind: u64, fields: [u64; WIDTH], exceptions: &[u64]) -> Checked
     ensures { λ r. ⌜ r ≡ checked kind fields (now (exceptions .entry)) ⌝ }
 {

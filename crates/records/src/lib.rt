@@ -24,7 +24,7 @@ use numbers::write_numbers;
 const EXCEPTIONS: u64 = 400;
 
 // Some fields, with zeros after them, and where they end.
-pub struct Fields {
+struct Fields {
     pub values: [u64; 13],
     pub end: End,
 }
