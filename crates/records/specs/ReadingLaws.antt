@@ -89,9 +89,13 @@ module _ (s : List ℕ) (first kind : ℕ) (row : List ℕ) (more : ℕ) where
   finished k x next q i = rw (le-ltb 400 (announced kind row) k, q, end-here s next i)
 
 -- ---- what is left as a part
-pub rest-none : (s : List ℕ) (p : ℕ) → length s ≤ p → readingAt (drop p s) 0 ≡ malformedAt 0
+-- "A place at or past the end is a record cut short."
+pub past-end : (s : List ℕ) (at : ℕ) → length s ≤ at → readingAt s at ≡ malformedAt at
 unfolding reading unbounded
-rest-none s p h = rw (drop-of-length-le s h)
+past-end s at h = rw (drop-of-length-le s h)
+
+pub rest-none : (s : List ℕ) (p : ℕ) → length s ≤ p → readingAt (drop p s) 0 ≡ malformedAt 0
+rest-none s p h = past-end (drop p s) 0 (omega (arith, length-drop p s))
 
 pub rest-all : (s : List ℕ) (p : ℕ) → take (length s - p) (drop p s) ≡ drop p s
 rest-all s p = take-all (length s - p) (drop p s) (rw (length-drop p s) (omega arith))
