@@ -1,6 +1,6 @@
 -- What follows for cells: the steps by which the code walks, ranges as written, and that in range cell by cell is in range.
 use mathlib.Core.Path.{_≡_, refl, sym, ap, _∙_}
-use mathlib.Core.Bool.{Bool, true, false, _&&_, and-assoc}
+use mathlib.Core.Bool.{Bool, true, false, _&&_, and-assoc, and-false}
 use mathlib.Core.List.{List, [], _∷_, map}
 use Prim.Native.Nat.{ℕ, zero, suc, _+_, _≤_, _<_}
 use native.Mathlib.Numerals.{add-one}
@@ -68,22 +68,25 @@ cell-between (suc cells) (q ∷ more) (suc place) n h = cell-between cells more 
 
 -- ---- the code's table: a row for each kind
 
-module _ (table : List Row) (kind place n : ℕ) (d : Row) (known : kind < 13) (inside : place < 13) where
+pub row-at : (table : List Row) (kind : ℕ) (d : Row) → kind < 13 → table ≡ map row kinds → getD table kind d ≡ row (fieldsOf kind)
+unfolding kinds
+row-at table kind d known e = ap (λ t. getD t kind d) e ∙ getD-map-below row kinds kind [] d known
+
+module _ (quantities : List Quantity) (place n : ℕ) (inside : place < 13) where
   abbrev bottom : ℕ
-  bottom = getD (getD table kind d .least) place 0
+  bottom = getD (row quantities .least) place 0
 
   abbrev top : ℕ
-  top = getD (getD table kind d .greatest) place 0
+  top = getD (row quantities .greatest) place 0
 
-  in-row : table ≡ map row kinds → cellWithin (fieldsOf kind) place n ≡ leb bottom n && leb n top
-  unfolding kinds
-  in-row e = rw (e, getD-map-below row kinds kind [] d known) (cell-between 13 (fieldsOf kind) place n inside)
+  pub under-row : n < bottom → cellWithin quantities place n ≡ false
+  under-row h = cell-between 13 quantities place n inside ∙ rw (lt-leb bottom n h)
 
-  pub under-row : n < bottom → table ≡ map row kinds → false ≡ cellWithin (fieldsOf kind) place n
-  under-row h e = sym (in-row e ∙ rw (lt-leb bottom n h))
+  pub over-row : top < n → cellWithin quantities place n ≡ false
+  over-row h = cell-between 13 quantities place n inside ∙ rw (lt-leb n top h, and-false (leb bottom n))
 
-  pub from-row : bottom ≤ n → table ≡ map row kinds → leb n top ≡ cellWithin (fieldsOf kind) place n
-  from-row h e = sym (in-row e ∙ rw (le-leb bottom n h))
+  pub in-row : bottom ≤ n → n ≤ top → cellWithin quantities place n ≡ true
+  in-row h k = cell-between 13 quantities place n inside ∙ rw (le-leb bottom n h, le-leb n top k)
 
 -- ---- in range cell by cell
 

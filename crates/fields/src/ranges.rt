@@ -3,7 +3,7 @@ ghost use mathlib.Core.Path.{_≡_};
 ghost use Prim.Native.Nat.{_<_};
 ghost use Rattle.lists.specs.Passing.{all};
 ghost use Rattle.fields.specs.Fields.{day, withinCeilings, fieldsOf, checked};
-ghost use Rattle.fields.specs.Cells.{cellWithin, cellsWithin};
+ghost use Rattle.fields.specs.Cells.{cellsWithin, row};
 use crate::kinds::WIDTH;
 use crate::kinds::is_shaped;
 use days::are_rising;
@@ -146,16 +146,12 @@ const RANGES: [Row; 13] = [
     },
 ];
 
-// Whether a number is from the least to the greatest of its cell.
-fn is_in_cell(kind: usize, field: usize, n: u64) -> bool
-    requires { ⌜ (kind < 13) × (field < 13) ⌝ }
-    ensures { λ r. ⌜ r ≡ cellWithin (fieldsOf kind) field n ⌝ }
+// The kind's row of the table. Reading it costs a copy of the table, so a record reads it once.
+fn row_of(kind: usize) -> Row
+    requires { ⌜ kind < 13 ⌝ }
+    ensures { λ r. ⌜ r ≡ row (fieldsOf kind) ⌝ }
 {
-    let row = RANGES[kind];
-    if n < row.least[field] {
-        return false;
-    }
-    n <= row.greatest[field]
+    RANGES[kind]
 }
 
 // Whether each of a record's cells is in range.
@@ -163,9 +159,13 @@ fn are_in_cells(kind: usize, fields: [u64; WIDTH]) -> bool
     requires { ⌜ kind < 13 ⌝ }
     ensures { λ r. ⌜ r ≡ cellsWithin (fieldsOf kind) fields ⌝ }
 {
+    let row = row_of(kind);
     let mut field: usize = 0;
     while field < WIDTH {
-        if !is_in_cell(kind, field, fields[field]) {
+        if fields[field] < row.least[field] {
+            return false;
+        }
+        if row.greatest[field] < fields[field] {
             return false;
         }
         field += 1;
