@@ -2,6 +2,7 @@
 // crates do not agree, the word `differs` stands.
 ghost use Prim.Native.Nat.{_≤_};
 ghost use lib.ListN.{length};
+use crate::alike::reads_alike;
 use crate::lines::read_hex;
 use crate::rooms::writes_back;
 use crate::text::Place;
@@ -167,6 +168,9 @@ fn put_records(text: &mut [u8; 65536], at: usize, bytes: &[u8]) -> usize {
     let mut place: usize = 0;
     while place < bytes.len() {
         let reading = records::read_record(bytes, place);
+        if !reads_alike(bytes, place, reading) {
+            return put_word(text, put, b"differs\n");
+        }
         let answer = reading.answer;
         match answer {
             Answer::Malformed(bad) => {
