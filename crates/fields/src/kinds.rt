@@ -7,6 +7,9 @@ ghost use Rattle.fields.specs.Fields.{countOf, signedAt, announced, isZe
 // The most fields that a kind has. Every record has room for so many, with zeros after its own.
 pub const WIDTH: usize = 13;
 
+// The most exceptions that a start record may have.
+pub const EXCEPTIONS: u64 = 400;
+
 // How many fields a kind has, the exceptions not counted.
 pub enum Count {
     Of(usize),
@@ -81,7 +84,7 @@ pub fn is_shaped(kind: u64, fields: [u64; WIDTH], exceptions: usize) -> bool
         return false;
     }
     let announced = announced(kind, fields);
-    if 400 < announced {
+    if EXCEPTIONS < announced {
         return false;
     }
     exceptions as u64 == announced

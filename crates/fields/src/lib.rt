@@ -6,6 +6,7 @@ mod ranges;
 pub use folding::fold;
 pub use folding::unfold;
 pub use kinds::Count;
+pub use kinds::EXCEPTIONS;
 pub use kinds::WIDTH;
 pub use kinds::announced;
 pub use kinds::count_of;

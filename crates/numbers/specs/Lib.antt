@@ -1,3 +1,4 @@
+pub mod Below
 pub mod Seven
 pub mod SevenLaws
 pub mod Several

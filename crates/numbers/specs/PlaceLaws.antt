@@ -2,20 +2,22 @@
 use mathlib.Core.Path.{_≡_, refl, sym, ap, _∙_}
 use mathlib.Core.List.{List, [], _∷_, _++_}
 use Prim.Native.Nat.{ℕ, suc, _+_, _-_, _≤_, _<_}
+use native.Mathlib.Numerals.{add-one}
 use native.Mathlib.Decide.{decLt}
 use native.Mathlib.Omega.{arith}
 use lib.ListN.{length, getD, drop, set, length-append, length-drop}
-use lib.Seq.{drop-drop, drop-append-seam, drop-cons, set-at, append-snoc, getD-drop}
-use native.Mathlib.Numerals.{add-one}
+use lib.Seq.{drop-drop, drop-append-seam, drop-cons, set-at, append-snoc}
+use Rattle.numbers.specs.Below.{Small, below-drop}
 use Rattle.numbers.specs.declared.Number.the-variants.{Value, Bad}
-use Rattle.numbers.specs.declared.End.{End}
 use Rattle.numbers.specs.declared.End.the-variants.{Next, Short}
 use Rattle.numbers.specs.Seven.{Got, none, got, unbounded, encode, decode}
-use Rattle.numbers.specs.SevenLaws.{Small, decode-only, unbounded-last, unbounded-more, before-got, bounded-got}
+use Rattle.numbers.specs.SevenLaws.{decode-only, unbounded-last, unbounded-more, before-got, bounded-got}
 use Rattle.numbers.specs.Several.{Some, nothing, some, onSome, writeOf, many}
 use Rattle.numbers.specs.SeveralLaws.{many-only}
 use Rattle.numbers.specs.Place.{placed, numberAt, ended, stored}
 
+-- ---- one number
+-- what is left after a number is a part of the bytes before it
 abbrev Front : List ℕ → List ℕ → Type 0
 Front s r = (b : ℕ) × (p : List ℕ) × (s ≡ b ∷ (p ++ r))
 
@@ -34,6 +36,7 @@ unbounded-front (b ∷ s) r n e = go (decLt b 128) (unbounded-front s r)
         let f = ih (a .0) (a .1) in
         (b, f .0 ∷ f .1, ap (λ l. b ∷ l) (f .2))
 
+-- x stands at the place p, and next is the place after it
 pub record Moved (s : List ℕ) (p x next : ℕ) : Type 0 where
   pub is : decode (drop p s) ≡ got x (drop next s)
   pub on : p < next
@@ -63,10 +66,12 @@ bad-is s p e = go (decode (drop p s)) refl e
     go none h q = h
     go (got n r) h q = let z : _≡_ {A = ℕ} 0 1 = cc in absurd (omega arith)
 
+-- the end of the bytes, seen from a place
 pub end-here : (s : List ℕ) (p : ℕ) → p ≤ length s → length s - length (drop p s) ≡ p
 end-here s p h = rw (length-drop p s) (omega arith)
 
 -- ---- several numbers, one by one
+-- numbers passed already, before those that are read from there on
 abbrev pub joined : List ℕ → Some → Some
 joined l nothing = nothing
 joined l (some m r) = some (l ++ m) r
@@ -91,7 +96,7 @@ joined-cons a x (some l t) = ap (λ z. some z t) (sym (append-snoc a x l))
 pub ended-step : (s : List ℕ) (n p x next : ℕ) → 0 < n → Moved s p x next → ended s (many n (drop p s)) ≡ ended s (many (n - 1) (drop next s))
 ended-step s n p x next h m = rw (many-one n (drop p s) h x (drop next s) (m .is)) (ended-cons s x (many (n - 1) (drop next s)))
 
-pub ended-none : (s : List ℕ) (p : ℕ) → p ≤ length s → ended s (many 0 (drop p s)) ≡ End.Next p
+pub ended-none : (s : List ℕ) (p : ℕ) → p ≤ length s → ended s (many 0 (drop p s)) ≡ Next p
 unfolding many
 ended-none s p h = rw (end-here s p h)
 
@@ -102,14 +107,11 @@ pub joined-nil : (g : Some) → g ≡ joined [] g
 joined-nil nothing = refl
 joined-nil (some l t) = refl
 
-pub small-drop : (s : List ℕ) (p : ℕ) → Small s → Small (drop p s)
-small-drop s p h i = rw (getD-drop p s i 0) (h (p + i))
-
 pub moved-size : (s : List ℕ) (p x next : ℕ) → Small s → Moved s p x next → next ≡ p + length (encode x)
 moved-size s p x next h m =
     let on = m .on in
     let inside = m .inside in
-    let e : length s - p ≡ length (encode x) + (length s - next) = sym (length-drop p s) ∙ ap length (decode-only (drop p s) (drop next s) x (small-drop s p h) (m .is)) ∙ length-append (encode x) (drop next s) ∙ ap (λ k. length (encode x) + k) (length-drop next s) in
+    let e : length s - p ≡ length (encode x) + (length s - next) = sym (length-drop p s) ∙ ap length (decode-only (drop p s) (drop next s) x (below-drop 256 s p h) (m .is)) ∙ length-append (encode x) (drop next s) ∙ ap (λ k. length (encode x) + k) (length-drop next s) in
     omega arith
 
 -- n numbers from a place on, up to another
@@ -127,7 +129,7 @@ ran s p n q small h e = go (many n (drop p s)) refl e
     go nothing i j = let z : _≡_ {A = ℕ} 0 1 = cc in absurd (omega arith)
     go (some l r) i j =
         let el : length s - length r ≡ q = cc in
-        let w = many-only n (drop p s) l r (small-drop s p small) i in
+        let w = many-only n (drop p s) l r (below-drop 256 s p small) i in
         let k : length s - p ≡ length (writeOf l) + length r = sym (length-drop p s) ∙ ap length (w .0) ∙ length-append (writeOf l) r in
         let c : q ≡ p + length (writeOf l) = omega arith in
         let d : drop q s ≡ r = ap (λ k. drop k s) c ∙ sym (drop-drop (length (writeOf l)) p s) ∙ ap (λ z. drop (length (writeOf l)) z) (w .0) ∙ drop-append-seam (writeOf l) r in

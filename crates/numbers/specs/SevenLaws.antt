@@ -5,14 +5,12 @@ use Prim.Native.Nat.{ℕ, zero, suc, _+_, _*_, _-_, _/_, _%_, _^_, _≤_, _<_}
 use native.Mathlib.Nat.{pow-suc}
 use native.Mathlib.Decide.{decLt}
 use native.Mathlib.Omega.{arith}
-use lib.ListN.{length, getD}
+use lib.ListN.{length}
 use borrow.Author.Tests.{lt-ltb, le-ltb}
+use Rattle.numbers.specs.Below.{Small, below-cons, below-left}
 use Rattle.numbers.specs.Seven.{Got, none, got, groups, encode, before, unbounded, bounded, decode}
 
--- bytes
-abbrev pub Small : List ℕ → Type 0
-Small s = (i : ℕ) → getD s i 0 < 256
-
+-- ---- the last byte of a number, and one before it
 pub unbounded-last : (b : ℕ) (s : List ℕ) → b < 128 → unbounded (b ∷ s) ≡ got b s
 unfolding unbounded
 unbounded-last b s h = rw (lt-ltb b 128 h)
@@ -29,6 +27,7 @@ pub groups-more : (k n : ℕ) → 128 ≤ n → groups (suc k) n ≡ (n % 128 + 
 unfolding groups
 groups-more k n h = rw (le-ltb n 128 h)
 
+-- ---- what was written is read
 unbounded-groups : (k n : ℕ) (r : List ℕ) → n < 128 ^ suc k → unbounded (groups (suc k) n ++ r) ≡ got n r
 unbounded-groups zero n r h = rw (groups-last 0 n h) (unbounded-last n r h)
 unbounded-groups (suc k) n r h = go (decLt n 128) (unbounded-groups k (n / 128) r (omega (arith, pow-suc 128 (suc k))))
@@ -42,6 +41,7 @@ unbounded-groups (suc k) n r h = go (decLt n 128) (unbounded-groups k (n / 128) 
 pub decode-encode : (n : ℕ) (r : List ℕ) → n < 2 ^ 64 → decode (encode n ++ r) ≡ got n r
 decode-encode n r h = rw (unbounded-groups 9 n r (omega arith), lt-ltb n (2 ^ 64) h)
 
+-- ---- what was read is what is written
 -- what comes before the higher groups, taken apart
 pub before-got : (b : ℕ) (g : Got) (n : ℕ) (r : List ℕ) → before b g ≡ got n r → (m : ℕ) × (g ≡ got m r) × (0 < m) × (n ≡ b - 128 + m * 128)
 before-got b none n r e = let z : _≡_ {A = ℕ} 0 1 = cc in absurd (omega arith)
@@ -133,30 +133,14 @@ left zero n h p = absurd (omega arith)
 left (suc k) n h p = record { fewer = k; fits = omega (arith, pow-suc 128 (suc k)); is = groups-more (suc k) n p }
 
 -- ---- bytes are small
-pub small-right : (a b : List ℕ) → Small (a ++ b) → Small b
-small-right [] b p = p
-small-right (x ∷ a) b p = small-right a b λ i. p (suc i)
-
-pub small-cons : (x : ℕ) (l : List ℕ) → x < 256 → Small l → Small (x ∷ l)
-small-cons x l p q zero = p
-small-cons x l p q (suc i) = q i
-
-pub small-append : (a b : List ℕ) → Small a → Small b → Small (a ++ b)
-small-append [] b p q = q
-small-append (x ∷ a) b p q = small-cons x (a ++ b) (p 0) (small-append a b (λ i. p (suc i)) q)
-
-pub small-left : (a b : List ℕ) → Small (a ++ b) → Small a
-small-left [] b p = λ i. omega arith
-small-left (x ∷ a) b p = small-cons x a (p 0) (small-left a b λ i. p (suc i))
-
 pub groups-small : (k n : ℕ) → Small (groups k n)
 unfolding groups
 groups-small zero n = λ i. omega arith
 groups-small (suc k) n = go (decLt n 128) (groups-small k (n / 128))
   where
     go : Dec (n < 128) → Small (groups k (n / 128)) → Small (groups (suc k) n)
-    go (yes p) ih = rw (groups-last k n p) (small-cons n [] (omega arith) λ i. omega arith)
-    go (no p) ih = rw (groups-more k n (omega arith)) (small-cons (n % 128 + 128) (groups k (n / 128)) (omega arith) ih)
+    go (yes p) ih = rw (groups-last k n p) (below-cons 256 n [] (omega arith) λ i. omega arith)
+    go (no p) ih = rw (groups-more k n (omega arith)) (below-cons 256 (n % 128 + 128) (groups k (n / 128)) (omega arith) ih)
 
 -- ---- a part of a number is cut short, and nothing past a number is looked at
 pub none-left : (a b : List ℕ) → a ++ b ≡ [] → b ≡ []
@@ -170,7 +154,7 @@ pub decode-part : (n : ℕ) (p q : List ℕ) → n < 2 ^ 64 → encode n ≡ p +
 decode-part n p q h is ne = go (decode p) refl
   where
     small : Small p
-    small = small-left p q (rw is at (groups-small 10 n))
+    small = below-left 256 p q (rw is at (groups-small 10 n))
 
     go : (g : Got) → decode p ≡ g → decode p ≡ none
     go none e = e

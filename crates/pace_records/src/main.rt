@@ -1,6 +1,7 @@
 // The pace of reading: trades are written into a room once and read over and over, and the sum of what is read is printed.
 // measure/records.rs does the same in plain Rust, and measure/run compares the times of the two.
 ghost use Prim.Native.Nat.{_<_};
+use fields::WIDTH;
 use libc::STDOUT_FILENO;
 use records::Answer;
 use records::Written;
@@ -11,7 +12,7 @@ const TRADES: u64 = 3800;
 const READS: u64 = 20000000;
 
 // The fields of a trade: time, code, buyer, seller, lots and rate.
-fn trade(i: u64) -> [u64; 13]
+fn trade(i: u64) -> [u64; WIDTH]
     requires { ⌜ i < 3800 ⌝ }
 {
     let buyer = 1000000 + i * 7 % 900;
@@ -55,10 +56,10 @@ fn fill(room: &mut [u8]) -> usize {
 }
 
 // The sum of a record's kind and fields.
-fn sum_of(kind: u64, fields: [u64; 13]) -> u64 {
+fn sum_of(kind: u64, fields: [u64; WIDTH]) -> u64 {
     let mut sum = kind;
     let mut i: usize = 0;
-    while i < 13 {
+    while i < WIDTH {
         sum = std::num::wrapping_add_u64(sum, fields[i]);
         i += 1;
     }

@@ -2,13 +2,14 @@
 // that rest.
 ghost use Prim.Native.Nat.{_≤_};
 ghost use lib.ListN.{length};
+use fields::WIDTH;
 use records::Answer;
 use records::Reading;
 
 // Whether two rows of fields are the same.
-fn same_fields(one: [u64; 13], other: [u64; 13]) -> bool {
+fn same_fields(one: [u64; WIDTH], other: [u64; WIDTH]) -> bool {
     let mut i: usize = 0;
-    while i < 13 {
+    while i < WIDTH {
         if one[i] != other[i] {
             return false;
         }

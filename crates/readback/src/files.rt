@@ -14,6 +14,7 @@ use crate::text::put_signed;
 use crate::text::put_word;
 use fields::Checked;
 use fields::Count;
+use fields::WIDTH;
 use numbers::End;
 use records::Answer;
 use records::Reading;
@@ -28,11 +29,11 @@ fn put_field(text: &mut [u8; 65536], at: usize, kind: u64, field: usize, value: 
 }
 
 // Puts the fields of a kind, each after a space.
-fn put_fields(text: &mut [u8; 65536], at: usize, kind: u64, values: [u64; 13]) -> usize {
+fn put_fields(text: &mut [u8; 65536], at: usize, kind: u64, values: [u64; WIDTH]) -> usize {
     let Count::Of(count) = fields::count_of(kind) else {
         return at;
     };
-    if 13 < count {
+    if WIDTH < count {
         return at;
     }
     let mut next = at;
@@ -58,7 +59,7 @@ fn put_written(
     at: usize,
     record: &[u8],
     kind: u64,
-    values: [u64; 13],
+    values: [u64; WIDTH],
     exceptions: &[u64],
 ) -> usize {
     if !writes_back(record, kind, values, exceptions) {
@@ -73,7 +74,7 @@ fn put_record(
     at: usize,
     record: &[u8],
     kind: u64,
-    values: [u64; 13],
+    values: [u64; WIDTH],
     exceptions: &[u64],
 ) -> usize {
     let named = put_number(&mut *text, at, kind);

@@ -6,6 +6,7 @@ use crate::text::Place;
 use crate::text::put_hex;
 use crate::text::put_named;
 use crate::text::put_word;
+use fields::WIDTH;
 use records::Written;
 
 // Whether two runs of bytes are the same.
@@ -40,7 +41,7 @@ fn fills_room(
     room: &mut [u8],
     record: &[u8],
     kind: u64,
-    values: [u64; 13],
+    values: [u64; WIDTH],
     exceptions: &[u64],
 ) -> bool {
     let answer = records::write_record(&mut *room, kind, values, exceptions);
@@ -54,7 +55,7 @@ fn fills_room(
 }
 
 // Whether a record is refused a room, which stays as it was.
-fn keeps_room(room: &mut [u8], kind: u64, values: [u64; 13], exceptions: &[u64]) -> bool {
+fn keeps_room(room: &mut [u8], kind: u64, values: [u64; WIDTH], exceptions: &[u64]) -> bool {
     let answer = records::write_record(&mut *room, kind, values, exceptions);
     let Written::NoRoom = answer else {
         return false;
@@ -63,7 +64,12 @@ fn keeps_room(room: &mut [u8], kind: u64, values: [u64; 13], exceptions: &[u64])
 }
 
 // Whether a record is written back as it was read, and needs just that much room.
-pub(crate) fn writes_back(record: &[u8], kind: u64, values: [u64; 13], exceptions: &[u64]) -> bool {
+pub(crate) fn writes_back(
+    record: &[u8],
+    kind: u64,
+    values: [u64; WIDTH],
+    exceptions: &[u64],
+) -> bool {
     let length = record.len();
     if length == 0 {
         return false;
@@ -100,12 +106,12 @@ fn put_room(text: &mut [u8; 65536], at: usize, room: &[u8]) -> usize {
 }
 
 // The thirteen fields that stand after the room and the kind.
-fn fields_in(numbers: &[u64]) -> [u64; 13]
+fn fields_in(numbers: &[u64]) -> [u64; WIDTH]
     requires { ⌜ 15 ≤ length (now numbers) ⌝ }
 {
-    let mut values = [0u64; 13];
+    let mut values = [0u64; WIDTH];
     let mut i: usize = 0;
-    while i < 13 {
+    while i < WIDTH {
         values[i] = numbers[i + 2];
         i += 1;
     }
@@ -118,7 +124,7 @@ fn put_room_after(
     at: usize,
     room: &mut [u8],
     kind: u64,
-    values: [u64; 13],
+    values: [u64; WIDTH],
     exceptions: &[u64],
 ) -> usize {
     let written = records::write_record(&mut *room, kind, values, exceptions);

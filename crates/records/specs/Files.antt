@@ -4,8 +4,8 @@ use mathlib.Core.List.{List, [], _∷_, _++_}
 use Prim.Native.Nat.{ℕ}
 use native.Mathlib.Omega.{arith}
 use lib.ListN.{drop}
+use Rattle.numbers.specs.Below.{Small, below-right}
 use Rattle.numbers.specs.Seven.{unbounded}
-use Rattle.numbers.specs.SevenLaws.{Small, small-right}
 use Rattle.records.specs.Records.{Entry, entry, writing, parsed, reading}
 use Rattle.records.specs.RecordLaws.{Whole, reading-only, reading-writing}
 use Rattle.records.specs.Reading.{recordAt, readingAt}
@@ -30,7 +30,7 @@ unfolding ReadsAs writings AllWhole
 file-written s [] small r = (r, tt)
 file-written s (e ∷ more) small (rest, q, r) =
     let a = reading-only s e rest small q in
-    let sr : Small rest = small-right (writing e) rest (rw (a .0) at small) in
+    let sr : Small rest = below-right 256 (writing e) rest (rw (a .0) at small) in
     let b = file-written rest more sr r in
     (a .0 ∙ ap (λ z. writing e ++ z) (b .0), (a .1, b .1))
 

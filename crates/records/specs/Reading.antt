@@ -7,7 +7,6 @@ use lib.ListN.{length, drop, replicate}
 use Rattle.numbers.specs.declared.End.the-variants.{Next as At, Short}
 use Rattle.numbers.specs.Several.{Some, nothing, some, onSome, many, writeOf}
 use Rattle.fields.specs.Fields.{announced}
-use Rattle.records.specs.declared.Answer.{Answer}
 use Rattle.records.specs.declared.Answer.the-variants.{Next, Malformed}
 use Rattle.records.specs.declared.Fields.{Fields}
 use Rattle.records.specs.declared.Reading.{Reading}

@@ -2,18 +2,19 @@
 use mathlib.Core.Path.{_≡_, refl, sym, ap, ap₂, _∙_, subst}
 use mathlib.Core.Bool.{Bool, true, false, cond}
 use mathlib.Core.List.{List, [], _∷_, _++_, append-assoc}
-use Prim.Native.Nat.{ℕ, zero, suc, _+_, _-_, _≤_, _<_}
+use Prim.Native.Nat.{ℕ, zero, suc, _+_, _-_, _≤_, _<_, _^_}
 use native.Mathlib.Omega.{arith}
 use lib.Dec.{ltb}
 use lib.ListN.{length, getD, take, drop, set, replicate, length-append, length-drop, drop-of-length-le}
 use lib.Seq.{drop-drop, drop-append-seam, set-at, append-snoc, take-all}
 use borrow.Author.Tests.{lt-ltb, le-ltb}
+use Rattle.numbers.specs.Below.{Small, below-drop, below-right}
 use Rattle.numbers.specs.Seven.{none, unbounded, encode, decode}
-use Rattle.numbers.specs.SevenLaws.{Small, groups-some}
+use Rattle.numbers.specs.SevenLaws.{groups-some}
 use Rattle.numbers.specs.Several.{Some, nothing, some, onSome, writeOf, many}
-use Rattle.numbers.specs.SeveralLaws.{fit-right, many-write}
+use Rattle.numbers.specs.SeveralLaws.{many-write}
 use Rattle.numbers.specs.Place.{ended}
-use Rattle.numbers.specs.PlaceLaws.{Moved, moved-size, end-here, small-drop}
+use Rattle.numbers.specs.PlaceLaws.{Moved, moved-size, end-here}
 use Rattle.fields.specs.Fields.{known, count, announced}
 use Rattle.records.specs.declared.Answer.{Answer}
 use Rattle.records.specs.declared.Answer.the-variants.{Next, Malformed}
@@ -125,7 +126,7 @@ module _ (s : List ℕ) (at : ℕ) (small : Small s) where
   pub lies : (k : ℕ) (f x rest : List ℕ) → reading (drop at s) ≡ parsed (entry k f x) rest → Lies s at (length s - length rest) k f x (at + length (writeOf (k ∷ f)))
   unfolding writeOf
   lies k f x rest e =
-      let a = reading-only (drop at s) (entry k f x) rest (small-drop s at small) e in
+      let a = reading-only (drop at s) (entry k f x) rest (below-drop 256 s at small) e in
       let front = encode k ++ writeOf f in
       let split : drop at s ≡ front ++ (writeOf x ++ rest) = a .0 ∙ writing-rest k f x rest ∙ sym (append-assoc (encode k) (writeOf f) (writeOf x ++ rest)) in
       let long : length s - at ≡ length front + (length (writeOf x) + length rest) = sym (length-drop at s) ∙ ap length split ∙ length-append front (writeOf x ++ rest) ∙ ap (λ z. length front + z) (length-append (writeOf x) rest) in
@@ -138,7 +139,7 @@ module _ (s : List ℕ) (at : ℕ) (small : Small s) where
       record {
         whole = a .1;
         bytes = rw end (a .0);
-        there = rw (left, end) (many-write x rest (fit-right (k ∷ f) x (a .1 .fit)));
+        there = rw (left, end) (many-write x rest (below-right (2 ^ 64) (k ∷ f) x (a .1 .fit)));
         on = omega arith;
         before = omega arith;
         inside = omega arith;
@@ -170,7 +171,7 @@ reading-part s at small h = go (reading (drop at s)) refl
     go : (g : Parsed) → reading (drop at s) ≡ g → placed s at g ≡ shifted at (placed (drop at s) 0 g)
     go unread e = rw zero-on
     go (parsed m rest) e =
-        let a = reading-only (drop at s) m rest (small-drop s at small) e in
+        let a = reading-only (drop at s) m rest (below-drop 256 s at small) e in
         let l : length s - at ≡ length (writing m) + length rest = sym (length-drop at s) ∙ ap length (a .0) ∙ length-append (writing m) rest in
         let d = length-drop at s in
         let n : length s - length rest ≡ at + (length (drop at s) - length rest) = omega arith in

@@ -7,10 +7,11 @@ use native.Mathlib.Omega.{arith}
 use lib.Dec.{ltb}
 use lib.ListN.{length}
 use borrow.Author.Tests.{le-ltb, ltb-false}
-use Rattle.numbers.specs.Seven.{Got, none, got, encode, decode}
-use Rattle.numbers.specs.SevenLaws.{Small, decode-encode, decode-only, decode-fits, small-left, small-right, none-left}
-use Rattle.numbers.specs.Several.{writeOf, Some, nothing, some, onGot, onSome, many}
-use Rattle.numbers.specs.SeveralLaws.{Fit, fit-cons, fit-append, fit-left, fit-right, write-append, write-small, many-write, Wrote, many-only}
+use Rattle.numbers.specs.Below.{Fit, Small, below-append, below-cons, below-left, below-right}
+use Rattle.numbers.specs.Seven.{encode, decode}
+use Rattle.numbers.specs.SevenLaws.{decode-encode, decode-only, decode-fits, none-left}
+use Rattle.numbers.specs.Several.{writeOf, onSome, many}
+use Rattle.numbers.specs.SeveralLaws.{got-apart, some-apart, write-append, write-small, many-write, Wrote, many-only}
 use Rattle.fields.specs.Fields.{known, count, announced}
 use Rattle.records.specs.Records.{Entry, entry, writing, Parsed, unread, parsed, readExceptions, readFields, reading}
 
@@ -40,23 +41,18 @@ reading-writing e rest w =
     let x = e .exceptions in
     let p = w .fit in
     let later : Fit (f ++ x) = λ i. p (suc i) in
-    rw (writing-rest k f x rest, decode-encode k (writeOf f ++ (writeOf x ++ rest)) (p 0), w .known, ← w .sized, many-write f (writeOf x ++ rest) (fit-left f x later), le-ltb 400 (announced k f) (w .few), ← w .more, many-write x rest (fit-right f x later))
+    rw (writing-rest k f x rest, decode-encode k (writeOf f ++ (writeOf x ++ rest)) (p 0), w .known, ← w .sized, many-write f (writeOf x ++ rest) (below-left (2 ^ 64) f x later), le-ltb 400 (announced k f) (w .few), ← w .more, many-write x rest (below-right (2 ^ 64) f x later))
 
 -- ---- what was read is what is written
-got-apart : (g : Got) (f : ℕ → List ℕ → Parsed) (e : Entry) (r : List ℕ) → onGot g unread f ≡ parsed e r → (n : ℕ) × (t : List ℕ) × (g ≡ got n t) × (f n t ≡ parsed e r)
-got-apart none f e r q = let z : _≡_ {A = ℕ} 0 1 = cc in absurd (omega arith)
-got-apart (got n t) f e r q = (n, t, refl, q)
-
-some-apart : (g : Some) (f : List ℕ → List ℕ → Parsed) (e : Entry) (r : List ℕ) → onSome g unread f ≡ parsed e r → (l : List ℕ) × (t : List ℕ) × (g ≡ some l t) × (f l t ≡ parsed e r)
-some-apart nothing f e r q = let z : _≡_ {A = ℕ} 0 1 = cc in absurd (omega arith)
-some-apart (some l t) f e r q = (l, t, refl, q)
+not-parsed : (e : Entry) (r : List ℕ) → unread ≡ parsed e r → ⊥
+not-parsed e r q = let z : _≡_ {A = ℕ} 0 1 = cc in absurd (omega arith)
 
 then-apart : (t : Bool) (g : Parsed) (e : Entry) (r : List ℕ) → cond t g unread ≡ parsed e r → (t ≡ true) × (g ≡ parsed e r)
 then-apart true g e r q = (refl, q)
-then-apart false g e r q = let z : _≡_ {A = ℕ} 0 1 = cc in absurd (omega arith)
+then-apart false g e r q = absurd (not-parsed e r q)
 
 else-apart : (t : Bool) (g : Parsed) (e : Entry) (r : List ℕ) → cond t unread g ≡ parsed e r → (t ≡ false) × (g ≡ parsed e r)
-else-apart true g e r q = let z : _≡_ {A = ℕ} 0 1 = cc in absurd (omega arith)
+else-apart true g e r q = absurd (not-parsed e r q)
 else-apart false g e r q = (refl, q)
 
 abbrev pub Reads : List ℕ → Entry → List ℕ → Type 0
@@ -65,26 +61,27 @@ Reads s e rest = (s ≡ writing e ++ rest) × Whole e
 whole : (k : ℕ) (s t u f x v : List ℕ) → k < 2 ^ 64 → known k ≡ true → s ≡ encode k ++ t → Wrote (count k) t f u → announced k f ≤ 400 → Wrote (announced k f) u x v → Reads s (entry k f x) v
 whole k s t u f x v p kn es wf few wx = (
   es ∙ ap (λ z. encode k ++ z) (wf .0 ∙ ap (λ z. writeOf f ++ z) (wx .0)) ∙ sym (writing-rest k f x v),
-  record { known = kn; sized = wf .1; few = few; more = wx .1; fit = fit-cons k (f ++ x) p (fit-append f x (wf .2) (wx .2)) },
+  record { known = kn; sized = wf .1; few = few; more = wx .1; fit = below-cons (2 ^ 64) k (f ++ x) p (below-append (2 ^ 64) f x (wf .2) (wx .2)) },
 )
 
 pub reading-only : (s : List ℕ) (e : Entry) (rest : List ℕ) → Small s → reading s ≡ parsed e rest → Reads s e rest
 unfolding reading
 reading-only s e rest small q =
-    let a = got-apart (decode s) (λ kind r. readFields kind r) e rest q in
+    let none-there = not-parsed e rest in
+    let a = got-apart (decode s) unread (parsed e rest) (λ kind r. readFields kind r) none-there q in
     let k = a .0 in
     let t = a .1 in
     let es : s ≡ encode k ++ t = decode-only s t k small (a .2) in
-    let st : Small t = small-right (encode k) t (rw es at small) in
+    let st : Small t = below-right 256 (encode k) t (rw es at small) in
     let b = then-apart (known k) (onSome (many (count k) t) unread λ fields r. readExceptions k fields r) e rest (a .3) in
-    let d = some-apart (many (count k) t) (λ fields r. readExceptions k fields r) e rest (b .1) in
+    let d = some-apart (many (count k) t) unread (parsed e rest) (λ fields r. readExceptions k fields r) none-there (b .1) in
     let f = d .0 in
     let u = d .1 in
     let wf = many-only (count k) t f u st (d .2) in
     let et : t ≡ writeOf f ++ u = wf .0 in
-    let su : Small u = small-right (writeOf f) u (rw et at st) in
+    let su : Small u = below-right 256 (writeOf f) u (rw et at st) in
     let g = else-apart (ltb 400 (announced k f)) (onSome (many (announced k f) u) unread λ exceptions r. parsed (entry k f exceptions) r) e rest (d .3) in
-    let h = some-apart (many (announced k f) u) (λ exceptions r. parsed (entry k f exceptions) r) e rest (g .1) in
+    let h = some-apart (many (announced k f) u) unread (parsed e rest) (λ exceptions r. parsed (entry k f exceptions) r) none-there (g .1) in
     let x = h .0 in
     let v = h .1 in
     let wx = many-only (announced k f) u x v su (h .2) in
@@ -112,7 +109,7 @@ pub part-unread : (e : Entry) (p q : List ℕ) → Whole e → writing e ≡ p +
 part-unread e p q w is ne = go (reading p) refl
   where
     small : Small p
-    small = small-left p q (rw is at (writing-small e))
+    small = below-left 256 p q (rw is at (writing-small e))
 
     go : (g : Parsed) → reading p ≡ g → reading p ≡ unread
     go unread h = h

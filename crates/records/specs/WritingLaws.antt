@@ -9,13 +9,12 @@ use native.Mathlib.Omega.{arith}
 use lib.ListN.{length, take, drop, replicate, length-append, length-drop, take-append-drop}
 use lib.Seq.{take-at, drop-at, getD-take, length-take-le, drop-append-seam}
 use borrow.Author.Tests.{lt-ltb, le-ltb, le-leb, eqb-true, eq-eqb, ne-eqb}
+use Rattle.numbers.specs.Below.{Fit, Small, below-append, below-drop}
 use Rattle.lists.specs.Passing.{all}
 use Rattle.numbers.specs.Seven.{encode}
-use Rattle.numbers.specs.SevenLaws.{Small, groups-most, small-append}
+use Rattle.numbers.specs.SevenLaws.{groups-most}
 use Rattle.numbers.specs.Several.{some, writeOf, many}
-use Rattle.numbers.specs.SeveralLaws.{Fit}
 use Rattle.numbers.specs.Sizes.{size-most}
-use Rattle.numbers.specs.PlaceLaws.{small-drop}
 use Rattle.numbers.specs.Put.{put, put-append}
 use Rattle.fields.specs.Fields.{kinds, known, count, announced, isZero, shaped}
 use Rattle.fields.specs.FieldLaws.{is-known, counts-most, shape-tells}
@@ -140,7 +139,7 @@ module _ (room : List ℕ) (kind : ℕ) (cells x : List ℕ) (thirteen : length 
   back t h =
       let long : length (bytes ++ left) - length left ≡ length bytes = omega (arith, length-append bytes left) in
       let read : reading (bytes ++ left) ≡ parsed (entryOf kind cells x) left = reading-writing (entryOf kind cells x) left (shaped-whole kind cells x thirteen t fit) in
-      let st = lies (bytes ++ left) 0 (small-append bytes left (writing-small (entryOf kind cells x)) (small-drop room (length bytes) small)) kind (take (count kind) cells) x left read in
+      let st = lies (bytes ++ left) 0 (below-append 256 bytes left (writing-small (entryOf kind cells x)) (below-drop 256 room (length bytes) small)) kind (take (count kind) cells) x left read in
       record {
         place = 0 + length (writeOf (kind ∷ take (count kind) cells));
         read = rw (read, long, shaped-padded kind cells x thirteen t);

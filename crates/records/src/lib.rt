@@ -8,6 +8,8 @@ ghost use Rattle.numbers.specs.Several.{many};
 ghost use Rattle.records.specs.Reading.{filled, malformedAt, afterFields, readingAt};
 ghost use Rattle.records.specs.Writing.{Out, writtenIn};
 use fields::Count;
+use fields::EXCEPTIONS;
+use fields::WIDTH;
 use fields::announced;
 use fields::count_of;
 use fields::is_shaped;
@@ -20,12 +22,9 @@ use numbers::skip_numbers;
 use numbers::write_number;
 use numbers::write_numbers;
 
-// The most exceptions that a start record may have.
-const EXCEPTIONS: u64 = 400;
-
 // Some fields, with zeros after them, and where they end.
 struct Fields {
-    pub values: [u64; 13],
+    pub values: [u64; WIDTH],
     pub end: End,
 }
 
@@ -40,7 +39,7 @@ pub enum Answer {
 pub struct Reading {
     pub answer: Answer,
     pub kind: u64,
-    pub fields: [u64; 13],
+    pub fields: [u64; WIDTH],
     pub more: usize,
 }
 
@@ -57,7 +56,7 @@ fn malformed(at: usize) -> Reading
     Reading {
         answer: Answer::Malformed(at),
         kind: 0,
-        fields: [0u64; 13],
+        fields: [0u64; WIDTH],
         more: 0,
     }
 }
@@ -67,13 +66,13 @@ fn read_fields(bytes: &[u8], at: usize, n: usize) -> Fields
     requires { ⌜ (at ≤ length (now bytes)) × (n ≤ 13) ⌝ }
     ensures { λ r. ⌜ r ≡ filled (now (bytes .entry)) (many n (drop at (now (bytes .entry)))) ⌝ }
 {
-    let mut values = [0u64; 13];
+    let mut values = [0u64; WIDTH];
     let mut place = at;
     let mut i: usize = 0;
     while i < n {
         let Number::Value(x, next) = read_number(bytes, place) else {
             return Fields {
-                values: [0u64; 13],
+                values: [0u64; WIDTH],
                 end: End::Short,
             };
         };
@@ -89,7 +88,13 @@ fn read_fields(bytes: &[u8], at: usize, n: usize) -> Fields
 
 // A record whose own fields were read: its exceptions are passed. `first` is the place of the record's first byte,
 // `more` that of the exceptions.
-fn with_exceptions(bytes: &[u8], first: usize, kind: u64, fields: [u64; 13], more: usize) -> Reading
+fn with_exceptions(
+    bytes: &[u8],
+    first: usize,
+    kind: u64,
+    fields: [u64; WIDTH],
+    more: usize,
+) -> Reading
     requires { ⌜ more ≤ length (now bytes) ⌝ }
     ensures { λ r. ⌜ r ≡ afterFields (now (bytes .entry)) first kind fields more ⌝ }
 {
@@ -138,7 +143,7 @@ pub fn read_rest(bytes: &[u8], next: usize) -> Reading
 }
 
 // A record, put at the start of lent room. The room after it stays, and all of it where the record is refused.
-pub fn write_record(room: &mut [u8], kind: u64, fields: [u64; 13], exceptions: &[u64]) -> Written
+pub fn write_record(room: &mut [u8], kind: u64, fields: [u64; WIDTH], exceptions: &[u64]) -> Written
     ensures { λ r. ⌜ _≡_ {A = Out} (record { answer = r; room = now (room .exit) }) (writtenIn (now (room .entry)) kind fields (now (exceptions .entry))) ⌝ }
 {
     if !is_shaped(kind, fields, exceptions.len()) {

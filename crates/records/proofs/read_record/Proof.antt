@@ -5,7 +5,7 @@ use mathlib.Core.List.{List}
 use Prim.Native.Nat.{ℕ, _<_}
 use lib.ListN.{drop}
 use borrow.Author.Needs.{needs}
-use Rattle.numbers.specs.SevenLaws.{Small}
+use Rattle.numbers.specs.Below.{Small}
 use Rattle.numbers.specs.Several.{many, some}
 use Rattle.numbers.specs.Place.{ended}
 use Rattle.numbers.specs.PlaceLaws.{Moved, value-is, bad-is, Ran, ran, short}
