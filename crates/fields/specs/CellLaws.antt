@@ -1,14 +1,12 @@
 -- What follows for cells: the steps by which the code walks, ranges as written, and that in range cell by cell is in range.
 use mathlib.Core.Path.{_≡_, refl, sym, ap, _∙_}
-use mathlib.Core.Bool.{Bool, true, false, _&&_, and-assoc, and-false}
+use mathlib.Core.Bool.{true, false, _&&_, and-assoc, and-false}
 use mathlib.Core.List.{List, [], _∷_, map}
-use Prim.Native.Nat.{ℕ, zero, suc, _+_, _≤_, _<_}
-use native.Mathlib.Numerals.{add-one}
+use Prim.Native.Nat.{ℕ, zero, suc, _≤_, _<_}
 use native.Mathlib.Decide.{ℕ-discrete}
 use native.Mathlib.Omega.{arith}
 use lib.Dec.{leb, leb·zero}
-use lib.ListN.{length, getD, drop, drop-of-length-le}
-use lib.Seq.{drop-cons}
+use lib.ListN.{length, getD, drop}
 use borrow.Author.Tests.{le-leb, lt-leb, ne-eqb}
 use Rattle.lists.specs.Table.{every}
 use Rattle.lists.specs.Passing.{all}
@@ -17,31 +15,7 @@ use Rattle.fields.specs.Fields.{Quantity, ceilings, withinCeilings, isZe
 use Rattle.fields.specs.FieldLaws.{within-written}
 use Rattle.fields.specs.Cells.{cellWithin, cellsWithin, least, greatest, ends, row}
 
--- ---- lists, walked from the front: what is left decides
-
-module _ (test : ℕ → Bool) (l : List ℕ) (i : ℕ) where
-  pub all-more : i < length l → test (getD l i 0) ≡ true → all test (drop i l) ≡ all test (drop (i + 1) l)
-  unfolding all
-  all-more h e = rw (drop-cons l i 0 h, e, add-one)
-
-  pub all-stop : i < length l → test (getD l i 0) ≡ false → all test (drop i l) ≡ false
-  unfolding all
-  all-stop h e = rw (drop-cons l i 0 h, e)
-
-  pub all-end : length l ≤ i → all test (drop i l) ≡ true
-  unfolding all
-  all-end h = rw (drop-of-length-le l h)
-
-module _ (test : ℕ → ℕ → Bool) (l : List ℕ) (i : ℕ) where
-  pub every-more : i < length l → test i (getD l i 0) ≡ true → every test i (drop i l) ≡ every test (i + 1) (drop (i + 1) l)
-  every-more h e = rw (drop-cons l i 0 h, e, add-one)
-
-  pub every-stop : i < length l → test i (getD l i 0) ≡ false → every test i (drop i l) ≡ false
-  every-stop h e = rw (drop-cons l i 0 h, e)
-
-  pub every-end : length l ≤ i → every test i (drop i l) ≡ true
-  every-end h = rw (drop-of-length-le l h)
-
+-- an element of a mapped list, whatever stands past its end
 getD-map-below : {X Y : Type 0} (f : X → Y) (l : List X) (i : ℕ) (d : X) (e : Y) → i < length l → getD (map f l) i e ≡ f (getD l i d)
 getD-map-below f [] i d e h = absurd (omega arith)
 getD-map-below f (x ∷ l) zero d e h = refl

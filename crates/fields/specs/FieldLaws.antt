@@ -12,7 +12,7 @@ use lib.Signed.{leZ, _≤ℤ_, leZ-yes}
 use borrow.Author.Tests.{lt-ltb, le-ltb, le-leb, lt-leb, ne-eqb, leb-true, ltb-true, eqb-true}
 use Rattle.days.specs.Days.{rising}
 use Rattle.lists.specs.Table.{every, at-each}
-use Rattle.lists.specs.Passing.{all}
+use Rattle.lists.specs.Passing.{all, all-at}
 use Rattle.fields.specs.declared.kinds.Count.the-variants.{Of, Unknown}
 use Rattle.fields.specs.declared.ranges.Checked.the-variants.{Passed, Refused}
 use Rattle.fields.specs.Fold.{unfolded}
@@ -155,12 +155,6 @@ module _ (q : Quantity) (n : ℕ) (w : withinCeilings q n ≡ true) where
       (leZ-yes (subst T (sym (a .0)) tt), leZ-yes (subst T (sym (a .1)) tt))
 
 -- ---- what is known of each element
-
-all-at : (test : ℕ → Bool) (l : List ℕ) (i : ℕ) → all test l ≡ true → i < length l → test (getD l i 0) ≡ true
-unfolding all
-all-at test [] i a h = absurd (omega arith)
-all-at test (x ∷ l) zero a h = and-eq-true-iff (test x) (all test l) .0 a .0
-all-at test (x ∷ l) (suc i) a h = all-at test l i (and-eq-true-iff (test x) (all test l) .0 a .1) (omega arith)
 
 within-at : (quantities : List Quantity) (fields : List ℕ) (i : ℕ) (d : Quantity) → allWithin quantities fields ≡ true → i < length quantities → withinCeilings (getD quantities i d) (getD fields i 0) ≡ true
 unfolding allWithin

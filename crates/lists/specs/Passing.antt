@@ -6,7 +6,8 @@ use Prim.Native.Nat.{ℕ, zero, suc, _+_, _-_, _≤_, _<_}
 use native.Mathlib.Numerals.{add-one}
 use native.Mathlib.Decide.{decLt}
 use native.Mathlib.Omega.{arith}
-use lib.ListN.{length, length-append}
+use lib.ListN.{length, getD, drop, length-append, drop-of-length-le}
+use lib.Seq.{drop-cons}
 
 unfoldable pub passing : (ℕ → Bool) → ℕ → List ℕ
 passing p zero = []
@@ -92,3 +93,24 @@ all-passing test p (suc n) k a h e =
     go : Dec (k < n) → (all test (passing p n) ≡ true) × (all test (cond (p n) (n ∷ []) []) ≡ true) → (k < n → p k ≡ true → test k ≡ true) → test k ≡ true
     go (yes u) both ih = ih u e
     go (no u) both ih = let z : n ≡ k = omega arith in and-eq-true-iff (test k) true .0 (rw (z, e) at (both .1)) .0
+
+-- ---- a list tested from the front: what is left decides
+module _ (test : ℕ → Bool) (l : List ℕ) (i : ℕ) where
+  pub all-more : i < length l → test (getD l i 0) ≡ true → all test (drop i l) ≡ all test (drop (i + 1) l)
+  unfolding all
+  all-more h e = rw (drop-cons l i 0 h, e, add-one)
+
+  pub all-stop : i < length l → test (getD l i 0) ≡ false → all test (drop i l) ≡ false
+  unfolding all
+  all-stop h e = rw (drop-cons l i 0 h, e)
+
+  pub all-end : length l ≤ i → all test (drop i l) ≡ true
+  unfolding all
+  all-end h = rw (drop-of-length-le l h)
+
+-- what holds of all holds of each
+pub all-at : (test : ℕ → Bool) (l : List ℕ) (i : ℕ) → all test l ≡ true → i < length l → test (getD l i 0) ≡ true
+unfolding all
+all-at test [] i a h = absurd (omega arith)
+all-at test (x ∷ l) zero a h = and-eq-true-iff (test x) (all test l) .0 a .0
+all-at test (x ∷ l) (suc i) a h = all-at test l i (and-eq-true-iff (test x) (all test l) .0 a .1) (omega arith)

@@ -1,13 +1,15 @@
 -- A table's rule by one computation: a test that passes at every entry of a list holds at each of its places.
-use mathlib.Core.Path.{sym, _∙_, subst}
-use mathlib.Core.Bool.{Bool, true, _&&_}
+use mathlib.Core.Path.{_≡_, sym, _∙_, subst}
+use mathlib.Core.Bool.{Bool, true, false, _&&_}
 use mathlib.Core.List.{List, [], _∷_}
-use Prim.Native.Nat.{ℕ, zero, suc, _+_, _<_}
+use Prim.Native.Nat.{ℕ, zero, suc, _+_, _≤_, _<_}
 use native.Mathlib.Nat.{zero-add, suc-add, add-suc, add-zero}
+use native.Mathlib.Numerals.{add-one}
 use native.Mathlib.Omega.{arith}
 use lib.Dec.{T}
 use lib.Ieee.Fits.{and-l, and-r}
-use lib.ListN.{length, getD}
+use lib.ListN.{length, getD, drop, drop-of-length-le}
+use lib.Seq.{drop-cons}
 
 -- the test at each entry with its place, the first entry's place being `place`
 abbrev pub every : (ℕ → ℕ → Bool) → ℕ → List ℕ → Bool
@@ -24,3 +26,14 @@ module _ (test : ℕ → ℕ → Bool) where
 
   pub at-each : (table : List ℕ) → T (every test 0 table) → (k : ℕ) → k < length table → T (test k (getD table k 0))
   at-each table t k h = subst (λ (n : ℕ). T (test n (getD table k 0))) (zero-add k) (along table 0 k t h)
+
+-- ---- a list tested from the front: what is left decides
+module _ (test : ℕ → ℕ → Bool) (l : List ℕ) (i : ℕ) where
+  pub every-more : i < length l → test i (getD l i 0) ≡ true → every test i (drop i l) ≡ every test (i + 1) (drop (i + 1) l)
+  every-more h e = rw (drop-cons l i 0 h, e, add-one)
+
+  pub every-stop : i < length l → test i (getD l i 0) ≡ false → every test i (drop i l) ≡ false
+  every-stop h e = rw (drop-cons l i 0 h, e)
+
+  pub every-end : length l ≤ i → every test i (drop i l) ≡ true
+  every-end h = rw (drop-of-length-le l h)

@@ -11,10 +11,19 @@ use lib.Dec.{ltb, lit<}
 use lib.ListN.{length, getD, drop, drop-of-length-le, length-drop}
 use lib.Seq.{drop-cons}
 use borrow.Author.Tests.{lt-ltb, le-ltb}
+use Rattle.numbers.specs.declared.Number.{Number}
 use Rattle.numbers.specs.declared.Number.the-variants.{Value, Bad}
 use Rattle.numbers.specs.Seven.{Got, none, got, before, unbounded, bounded, decode}
 use Rattle.numbers.specs.SevenLaws.{unbounded-last, unbounded-more}
-use Rattle.numbers.specs.Place.{placed, numberAt, Scale, lastGroup}
+use Rattle.numbers.specs.Place.{placed, numberAt}
+
+-- what one unit of a group counts, from the second group to the tenth
+abbrev pub Scale : ℕ → Type 0
+Scale scale = (k : ℕ) × (k ≤ 9) × (scale ≡ 128 ^ k)
+
+-- a number's end: its last group is not zero, and the number has 64 bits
+abbrev pub lastGroup : ℕ → ℕ → ℕ → ℕ → Number
+lastGroup value scale group next = cond (ltb 0 group && ltb (value + group * scale) (2 ^ 64)) (Value (value + group * scale) next) Bad
 
 -- what the whole number is, by what the higher groups are: these are not zero
 abbrev pub onward : ℕ → ℕ → Got → Got

@@ -1,8 +1,7 @@
 -- What the code answers at a place of some bytes, by what stands there.
-use mathlib.Core.Bool.{cond, _&&_}
+use mathlib.Core.Bool.{cond}
 use mathlib.Core.List.{List}
-use Prim.Native.Nat.{ℕ, _+_, _*_, _-_, _^_, _≤_}
-use mathlib.Core.Path.{_≡_}
+use Prim.Native.Nat.{ℕ, _-_}
 use lib.Dec.{ltb}
 use lib.ListN.{length, drop}
 use Rattle.numbers.specs.declared.Number.{Number}
@@ -20,14 +19,6 @@ placed s (got n rest) = Value n (length s - length rest)
 -- the number at a place, and the place after it
 abbrev pub numberAt : List ℕ → ℕ → Number
 numberAt s at = placed s (decode (drop at s))
-
--- what one unit of a group counts, from the second group to the tenth
-abbrev pub Scale : ℕ → Type 0
-Scale scale = (k : ℕ) × (k ≤ 9) × (scale ≡ 128 ^ k)
-
--- a number's end: its last group is not zero, and the number has 64 bits
-abbrev pub lastGroup : ℕ → ℕ → ℕ → ℕ → Number
-lastGroup value scale group next = cond (ltb 0 group && ltb (value + group * scale) (2 ^ 64)) (Value (value + group * scale) next) Bad
 
 -- the place after some numbers
 abbrev pub ended : List ℕ → Some → End

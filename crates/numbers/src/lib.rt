@@ -4,7 +4,8 @@ ghost use Prim.Native.Nat.{_+_, _<_, _≤_};
 ghost use lib.ListN.{length, drop};
 ghost use Rattle.numbers.specs.Seven.{encode};
 ghost use Rattle.numbers.specs.Several.{many, writeOf};
-ghost use Rattle.numbers.specs.Place.{numberAt, Scale, lastGroup, ended, storedFrom};
+ghost use Rattle.numbers.specs.Place.{numberAt, ended, storedFrom};
+ghost use Rattle.numbers.specs.Groups.{Scale, lastGroup};
 ghost use Rattle.numbers.specs.Put.{put};
 
 // A number and the place after it, or that no number stands there.

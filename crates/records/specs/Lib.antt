@@ -1,6 +1,7 @@
 pub mod Records
 pub mod RecordLaws
 pub mod Reading
+pub mod Steps
 pub mod ReadingLaws
 pub mod Writing
 pub mod WritingLaws

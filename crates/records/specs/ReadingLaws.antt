@@ -21,7 +21,8 @@ use Rattle.records.specs.declared.Answer.the-variants.{Next, Malformed}
 use Rattle.records.specs.declared.Reading.{Reading}
 use Rattle.records.specs.Records.{entry, writing, Parsed, unread, parsed, reading}
 use Rattle.records.specs.RecordLaws.{Whole, reading-only, writing-rest}
-use Rattle.records.specs.Reading.{padded, filled, malformedAt, recordAt, afterFields, placed, readingAt}
+use Rattle.records.specs.Reading.{padded, malformedAt, recordAt, placed, readingAt}
+use Rattle.records.specs.Steps.{filled, afterFields}
 
 -- ---- fields in a row
 -- zeros after a list change none of its elements

@@ -196,6 +196,10 @@ module _ (s : List ℕ) (at next kind : ℕ) (cells : List ℕ) (place : ℕ) (s
   its-bytes : writing its ≡ take (next - at) (drop at s)
   its-bytes = sym (ap (take (next - at)) (found .lies .bytes) ∙ take-at (writing its) (drop next s) (next - at) its-long)
 
+  -- what the writer refuses under 1 no reader answers
+  pub reads-shaped : shaped kind cells (length (found .exceptions)) ≡ true
+  reads-shaped = ap (λ c. shaped kind c (length (found .exceptions))) (found .row) ∙ row-shaped its (found .lies .whole)
+
   pub reads-written : (room : List ℕ) → next - at ≤ length room
       → writtenIn room kind cells (found .exceptions) ≡ out (Done (next - at)) (take (next - at) (drop at s) ++ drop (next - at) room)
   reads-written room h =

@@ -11,7 +11,8 @@ use Rattle.numbers.specs.Place.{ended}
 use Rattle.numbers.specs.PlaceLaws.{Moved, value-is, bad-is, Ran, ran, short}
 use Rattle.fields.specs.Fields.{known, count}
 use Rattle.fields.specs.FieldLaws.{is-known, is-unknown, counts-most, counted, uncounted}
-use Rattle.records.specs.Reading.{padded, filled, afterFields}
+use Rattle.records.specs.Reading.{padded}
+use Rattle.records.specs.Steps.{filled, afterFields}
 use Rattle.records.specs.ReadingLaws.{filled-end, no-number, no-kind, no-fields, fields-read}
 use Rattle.records.proofs.read_record.Statement.{statement}
 use Rattle.records.proofs.read_record.Tie as tie

@@ -4,9 +4,8 @@ use Prim.Native.Nat.{_-_}
 use lib.ListN.{drop}
 use borrow.Author.Tests.{eq-eqb, ne-eqb}
 use native.Mathlib.Omega.{arith}
-use Rattle.lists.specs.Passing.{all}
+use Rattle.lists.specs.Passing.{all, all-more, all-stop, all-end}
 use Rattle.fields.specs.Fields.{isZero}
-use Rattle.fields.specs.CellLaws.{all-more, all-stop, all-end}
 use Rattle.fields.proofs.kinds.are_zero.Statement.{statement}
 use Rattle.fields.proofs.kinds.are_zero.Tie as tie
 

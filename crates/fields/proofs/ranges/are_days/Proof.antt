@@ -4,10 +4,9 @@ use Prim.Native.Nat.{_-_}
 use lib.ListN.{length, drop}
 use borrow.Author.Tests.{le-leb, lt-leb}
 use native.Mathlib.Omega.{arith}
-use Rattle.lists.specs.Passing.{all}
+use Rattle.lists.specs.Passing.{all, all-more, all-stop, all-end}
 use Rattle.fields.specs.Fields.{day, withinCeilings}
 use Rattle.fields.specs.FieldLaws.{day-written}
-use Rattle.fields.specs.CellLaws.{all-more, all-stop, all-end}
 use Rattle.fields.proofs.ranges.are_days.Statement.{statement}
 use Rattle.fields.proofs.ranges.are_days.Tie as tie
 

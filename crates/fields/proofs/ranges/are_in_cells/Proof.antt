@@ -3,11 +3,11 @@ use mathlib.Core.Path.{_≡_, refl, sym, _∙_, subst}
 use Prim.Native.Nat.{_-_, _≤_, _<_}
 use native.Mathlib.Omega.{arith}
 use lib.ListN.{drop, getD}
-use Rattle.lists.specs.Table.{every}
+use Rattle.lists.specs.Table.{every, every-more, every-stop, every-end}
 use Rattle.fields.specs.declared.ranges.Row.{Row}
 use Rattle.fields.specs.Fields.{fieldsOf}
 use Rattle.fields.specs.Cells.{cellWithin, cellsWithin}
-use Rattle.fields.specs.CellLaws.{every-more, every-stop, every-end, under-row, over-row, in-row}
+use Rattle.fields.specs.CellLaws.{under-row, over-row, in-row}
 use Rattle.fields.proofs.ranges.are_in_cells.Statement.{statement}
 use Rattle.fields.proofs.ranges.are_in_cells.Tie as tie
 
