@@ -6,3 +6,5 @@ pub mod Keep
 pub mod Parts
 pub mod Rows
 pub mod Tabulate
+pub mod Those
+pub mod All

@@ -1,7 +1,7 @@
 -- The first n rows of a table, changed one by one; the others untouched.
 use mathlib.Core.Path.{_≡_, refl, sym, ap, _∙_}
 use mathlib.Core.List.{List, [], _∷_, _++_, map}
-use Prim.Native.Nat.{ℕ, suc, _+_, _<_}
+use Prim.Native.Nat.{ℕ, zero, suc, _+_, _<_}
 use native.Mathlib.Numerals.{add-one}
 use native.Mathlib.Omega.{arith}
 use lib.ListN.{length, take, drop, getD, set, length-append, length-take, length-drop, length-map}
@@ -13,6 +13,11 @@ firstRows f n l = map f (take n l) ++ drop n l
 pub map-append : {X Y : Type 0} (f : X → Y) (a b : List X) → map f (a ++ b) ≡ map f a ++ map f b
 map-append f [] b = refl
 map-append f (x ∷ a) b = ap (λ l. f x ∷ l) (map-append f a b)
+
+pub drop-map : {X Y : Type 0} (f : X → Y) (n : ℕ) (xs : List X) → drop n (map f xs) ≡ map f (drop n xs)
+drop-map f zero xs = refl
+drop-map f (suc n) [] = refl
+drop-map f (suc n) (x ∷ xs) = drop-map f n xs
 
 module _ {X : Type 0} (f : X → X) (l : List X) (i : ℕ) (d : X) (h : i < length l) where
   mapped-long : length (map f (take i l)) ≡ i

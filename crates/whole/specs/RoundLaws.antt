@@ -1,18 +1,20 @@
 -- What follows of rounding. The laws of rounding to the nearest hold for any tie rule: the result is nearest
 -- (`rounded-nearest`), and no other whole number is (`rounded-only`).
-use mathlib.Core.Path.{_≡_, refl, sym, _∙_, ap}
+use mathlib.Core.Path.{_≡_, refl, sym, _∙_, ap, ap₂}
 use mathlib.Core.Bool.{Bool, true, false, not}
+use mathlib.Core.Logic.{_⊎_, inl, inr}
 use Prim.Native.Nat.{ℕ, zero, suc, _+_, _*_, _-_, _/_, _%_, _<_, _≤_, zero-le}
 use native.Mathlib.Nat.{div-add-mod', mod-lt, div-eq-of-lt-le, zero-div, zero-mod}
-use native.Mathlib.Nat.{mul-le-mul-left, mul-le-mul-right}
+use native.Mathlib.Nat.{mul-comm, mul-pos, mul-le-mul-left, mul-le-mul-right, mul-lt-mul-of-pos-left}
+use native.Mathlib.Nat.{mul-div-mul-left}
 use native.Mathlib.Nat.{lt-of-mul-lt-mul-right, le-of-mul-le-mul-right, eq-of-mul-eq-mul-left}
 use native.Mathlib.Omega.{arith}
 use borrow.Author.Tests.{lt-ltb, le-ltb}
 use lib.Dec.{T, ltb, ltb→lt, nltb→le}
-use lib.IntN.{ℤ, pos, negsuc, negℤ, natAbs, _+ℤ_, _-ℤ_, _*ℤ_, +ℤ-invr, negℤ-negℤ}
+use lib.IntN.{ℤ, pos, negsuc, negℤ, natAbs, _+ℤ_, _-ℤ_, _*ℤ_, +ℤ-invr, negℤ-negℤ, *ℤ-comm}
 use lib.Signed.{_≤ℤ_, _<ℤ_}
-use Rattle.whole.specs.Parts.{_⊖_, negsuc-⊖, parts₃, ring, zarith}
-use Rattle.whole.specs.Order.{≤ℤ-antisym}
+use Rattle.whole.specs.Parts.{Parts, _⊖_, ⊖-lt, negsuc-⊖, parts₃, ring, zarith}
+use Rattle.whole.specs.Order.{≤ℤ-antisym, ≤ℤ-total}
 use Rattle.whole.specs.Within.{Within, natAbs-neg-pos, natAbs-*}
 use Rattle.whole.specs.Round.{onTie, nearestSize, sizeRoundedBy, withSign, roundedBy, rounded, hundredthUp}
 
@@ -271,3 +273,90 @@ pub hundredth-within : {B : ℕ} (x : ℤ) → Within (100 * B) x → Within B (
 unfolding hundredthUp
 hundredth-within {B} (pos n) h = record { size = omega (arith, h .size) }
 hundredth-within {B} (negsuc n) h = record { size = rw natAbs-neg-pos (omega (arith, h .size)) }
+
+-- ---- between bounds
+-- A whole number beyond a bound is at least d away from a dividend that is not beyond it.
+-- omega is handed the law of the naturals for the product.
+module _ (n y z : ℤ) (d : ℕ) (h : y <ℤ z) where
+  products : (b : Parts y) (c : Parts z) → d * suc (b .p + c .n) ≤ d * (c .p + b .n)
+  products b c = mul-le-mul-left d (⊖-lt (b .p) (b .n) (c .p) (c .n) (simp (b .is, c .is) at h))
+
+  below-apart : (pos d *ℤ z) ≤ℤ n → d ≤ natAbs (n -ℤ pos d *ℤ y)
+  below-apart = parts₃ n y z (λ a b c. simp (a .is, b .is, c .is, ring) (omega (zarith, products b c)))
+
+  above-apart : n ≤ℤ (pos d *ℤ y) → d ≤ natAbs (n -ℤ pos d *ℤ z)
+  above-apart = parts₃ n y z (λ a b c. simp (a .is, b .is, c .is, ring) (omega (zarith, products b c)))
+
+module _ (tie : ℤ → ℕ → ℕ) (rule : TieRule tie) (n : ℤ) (d : ℕ) (h : 0 < d) where
+  not-apart : d ≤ natAbs (n -ℤ pos d *ℤ roundedBy tie n d) → ⊥
+  not-apart k = omega (arith, rounded-near tie n d h rule)
+
+  pub rounded-least : (lo : ℤ) → (pos d *ℤ lo) ≤ℤ n → lo ≤ℤ roundedBy tie n d
+  rounded-least lo k = go (≤ℤ-total z lo)
+    where
+      z : ℤ
+      z = roundedBy tie n d
+
+      go : (z <ℤ lo) ⊎ (lo ≤ℤ z) → lo ≤ℤ z
+      go (inl e) = absurd (not-apart (below-apart n z lo d e k))
+      go (inr e) = e
+
+  pub rounded-most : (hi : ℤ) → n ≤ℤ (pos d *ℤ hi) → roundedBy tie n d ≤ℤ hi
+  rounded-most hi k = go (≤ℤ-total hi z)
+    where
+      z : ℤ
+      z = roundedBy tie n d
+
+      go : (hi <ℤ z) ⊎ (z ≤ℤ hi) → z ≤ℤ hi
+      go (inl e) = absurd (not-apart (above-apart n hi z d e k))
+      go (inr e) = e
+
+-- ---- equal quotients
+-- a multiple of a number has its sign
+scaled-sign : (P : ℤ → ℤ → Type 0) → ((a b : ℕ) → P (pos a) (pos b)) → ((a b : ℕ) → P (negsuc a) (negsuc b))
+    → (k : ℕ) → 0 < k → (n : ℤ) → P (pos k *ℤ n) n
+scaled-sign P f g k h (pos n) = f (k * n) n
+scaled-sign P f g k h (negsuc n) = go (k * suc n) (mul-pos h (omega arith))
+  where
+    go : (m : ℕ) → 0 < m → P (negℤ (pos m)) (negsuc n)
+    go zero h = absurd (omega arith)
+    go (suc m) h = g m n
+
+withSign-scaled : (k : ℕ) → 0 < k → (n : ℤ) (s : ℕ) → withSign (pos k *ℤ n) s ≡ withSign n s
+unfolding withSign
+withSign-scaled k h n s = scaled-sign (λ x y. withSign x s ≡ withSign y s) (λ a b. refl) (λ a b. refl) k h n
+
+-- the rule in force does not look at the scale
+pub onTie-scaled : (k : ℕ) → 0 < k → (n : ℤ) (q : ℕ) → onTie (pos k *ℤ n) q ≡ onTie n q
+onTie-scaled k h n q = scaled-sign (λ x y. onTie x q ≡ onTie y q) (λ a b. refl) (λ a b. refl) k h n
+
+rest-scaled : (k m d : ℕ) → 0 < k → k * m % (k * d) ≡ k * (m % d)
+rest-scaled k m d h =
+    let e : m / d * (k * d) + k * m % (k * d) ≡ k * m =
+    rw (← mul-div-mul-left m d h) (div-add-mod' (k * m) (k * d)) in
+    omega (arith, ap (λ x. k * x) (div-add-mod' m d))
+
+size-scaled : (k q r d t : ℕ) → 0 < k → nearestSize q (k * r) (k * d) t ≡ nearestSize q r d t
+size-scaled k q r d t h = go (rest r d)
+  where
+    go : Rest r d → nearestSize q (k * r) (k * d) t ≡ nearestSize q r d t
+    go (less e) =
+        less-than-half q (k * r) (k * d) t (omega (arith, mul-lt-mul-of-pos-left e h)) ∙ sym (less-than-half q r d t e)
+    go (more e) =
+        more-than-half q (k * r) (k * d) t (omega (arith, mul-lt-mul-of-pos-left e h)) ∙ sym (more-than-half q r d t e)
+    go (tied e) = half q (k * r) (k * d) t (omega (arith, ap (λ x. k * x) e)) ∙ sym (half q r d t e)
+
+module _ (tie : ℤ → ℕ → ℕ) (same : (k : ℕ) → 0 < k → (n : ℤ) (q : ℕ) → tie (pos k *ℤ n) q ≡ tie n q) where
+  pub rounded-scaled : (k : ℕ) → 0 < k → (n : ℤ) (d : ℕ) → roundedBy tie (pos k *ℤ n) (k * d) ≡ roundedBy tie n d
+  rounded-scaled k h n d =
+      let m = natAbs n in
+      rw
+      (withSign-scaled k h n, natAbs-* (pos k) n, mul-div-mul-left m d h, rest-scaled k m d h, same k h n (m / d))
+      (ap (withSign n) (size-scaled k (m / d) (m % d) d (tie n (m / d)) h))
+
+  pub rounded-same : (n m : ℤ) (d e : ℕ) → 0 < d → 0 < e → n *ℤ pos e ≡ m *ℤ pos d
+      → roundedBy tie n d ≡ roundedBy tie m e
+  rounded-same n m d e h k q =
+      sym (rounded-scaled e k n d)
+      ∙ ap₂ (roundedBy tie) (*ℤ-comm (pos e) n ∙ q ∙ *ℤ-comm m (pos d)) (mul-comm e d)
+      ∙ rounded-scaled d h m e

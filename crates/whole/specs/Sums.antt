@@ -22,6 +22,10 @@ sum-append [] ys = sym (+ℤ-idl (sumZ ys))
 sum-append (x ∷ xs) ys =
     ap (λ t. x +ℤ t) (sum-append xs ys) ∙ sym (+ℤ-assoc x (sumZ xs) (sumZ ys))
 
+pub sum-last : (xs : List ℤ) (x : ℤ) → sumZ (xs ++ (x ∷ [])) ≡ sumZ xs +ℤ x
+unfolding sumZ
+sum-last xs x = sum-append xs (x ∷ []) ∙ ap (λ t. sumZ xs +ℤ t) (+ℤ-idr x)
+
 -- ---- the sum of the first i: where a loop starts, one turn, and its bound
 pub sum-none : (xs : List ℤ) → sumZ (take 0 xs) ≡ pos 0
 unfolding sumZ
@@ -29,12 +33,10 @@ sum-none xs = refl
 
 pub sum-more : (xs : List ℤ) (i : ℕ) → i < length xs
     → sumZ (take (i + 1) xs) ≡ sumZ (take i xs) +ℤ getD xs i (pos 0)
-unfolding sumZ
 sum-more xs i h =
     ap (λ n. sumZ (take n xs)) (add-one i)
     ∙ ap sumZ (take-suc xs i (pos 0) h)
-    ∙ sum-append (take i xs) (getD xs i (pos 0) ∷ [])
-    ∙ ap (λ t. sumZ (take i xs) +ℤ t) (+ℤ-idr (getD xs i (pos 0)))
+    ∙ sum-last (take i xs) (getD xs i (pos 0))
 
 pub sum-within : {B : ℕ} (xs : List ℤ) (i : ℕ) → Each B xs → Within (i * B) (sumZ (take i xs))
 unfolding sumZ

@@ -1,0 +1,13 @@
+pub mod Day
+pub mod Rules
+pub mod Tally
+pub mod Bounds
+pub mod MeanLaws
+pub mod CountLaws
+pub mod TallyLaws
+pub mod RuleLaws
+pub mod ExactLaws
+pub mod BetweenLaws
+pub mod OrderLaws
+pub mod MirrorLaws
+pub mod Examples
