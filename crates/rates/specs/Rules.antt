@@ -89,8 +89,8 @@ module _ (trades : List Trade) (quotes : List Quote) where
 
   -- The rate by a rule, from the previous settlement rate and the final rate.
   abbrev pub rateBy : Rule → ℤ → ℤ → ℤ
-  rateBy LastHour previous final = nearest (meanOf (map byLots (lateTrades trades)))
-  rateBy LastFive previous final = nearest (meanOf (map byLots (lastFive trades)))
+  rateBy LastHour previous final = nearest (meanOf (usedBy LastHour))
+  rateBy LastFive previous final = nearest (meanOf (usedBy LastFive))
   rateBy Quotes previous final = nearest (halfway (meanOf (map once (bidsOf quotes))) (meanOf (map once (offersOf quotes))))
   rateBy Previous previous final = previous
   rateBy Final previous final = final

@@ -92,7 +92,7 @@ fn mean_with(m: Mean, w: Weighted) -> Mean
     }
 }
 
-// The mean of the last five. Where there are fewer, nothing has been added for the others.
+// The mean of the last five. Where the day has had fewer, the others weigh nothing.
 fn mean_of(latest: [Weighted; 5]) -> Mean
     requires { ⌜ (length latest ≡ 5) × EachSmall latest ⌝ }
     ensures { λ r. ⌜ r ≡ meanOf latest ⌝ }
