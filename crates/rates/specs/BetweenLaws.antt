@@ -14,13 +14,14 @@ use Rattle.whole.specs.Ring.{add-mulℤ}
 use Rattle.whole.specs.Round.{onTie}
 use Rattle.whole.specs.RoundLaws.{onTie-rule, rounded-least, rounded-most}
 use Rattle.whole.specs.Sums.{sumZ}
-use Rattle.rates.specs.Day.{Trade, Quote, lateTrades, lastFive, bidsOf, offersOf}
-use Rattle.rates.specs.Rules.{total, worth, meanOf, halfway, nearest, byLots, once}
+use Rattle.tallies.specs.Means.{byLots, meanOf, once, total, worth}
+use Rattle.tallies.specs.Day.{Trade, Quote, lateTrades, lastFive, bidsOf, offersOf}
+use Rattle.tallies.specs.declared.Weighted.{Weighted}
+use Rattle.tallies.specs.declared.Mean.{Mean}
+use Rattle.rates.specs.ExactLaws.{halfway-weighs}
+use Rattle.rates.specs.Rules.{halfway, nearest}
 use Rattle.rates.specs.Rules.{numberOf, ruleOf, usedBy, rateBy, settled}
-use Rattle.rates.specs.MeanLaws.{halfway-weighs}
 use Rattle.rates.specs.CountLaws.{Weighs, rule-weighs}
-use Rattle.rates.specs.declared.Weighted.{Weighted}
-use Rattle.rates.specs.declared.Mean.{Mean}
 use Rattle.rates.specs.declared.Rule.{Rule}
 use Rattle.rates.specs.declared.Rule.the-variants.{LastHour, LastFive, Quotes, Previous, Final}
 

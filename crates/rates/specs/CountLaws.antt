@@ -11,9 +11,10 @@ use lib.ListN.{length, length-append, length-map, length-drop}
 use borrow.Author.Tests.{leb-true}
 use Rattle.lists.specs.All.{All, none-left, and-more, all-those, all-drop}
 use Rattle.lists.specs.Keep.{cond-keeps}
-use Rattle.rates.specs.Day.{Trade, Quote, inLastHour, lateTrades, lastFive, bidsOf, offersOf}
-use Rattle.rates.specs.Rules.{total, meanOf, byLots, once, ruleAt, ruleOf, usedBy, settled}
-use Rattle.rates.specs.MeanLaws.{once-weigh}
+use Rattle.tallies.specs.Means.{byLots, meanOf, once, total}
+use Rattle.tallies.specs.Day.{Trade, Quote, inLastHour, lateTrades, lastFive, bidsOf, offersOf}
+use Rattle.tallies.specs.MeanLaws.{once-weigh}
+use Rattle.rates.specs.Rules.{ruleAt, ruleOf, usedBy, settled}
 use Rattle.rates.specs.declared.Rule.{Rule}
 use Rattle.rates.specs.declared.Rule.the-variants.{LastHour, LastFive, Quotes, Previous, Final}
 

@@ -1,12 +1,16 @@
 -- What `halfway` is exactly, before the one rounding at the end, and that equal quotients round alike.
 use mathlib.Core.Path.{_≡_, _∙_, ap₂}
-use Prim.Native.Nat.{ℕ, _*_, _<_}
+use Prim.Native.Nat.{ℕ, _*_, _≤_, _<_}
+use native.Mathlib.Nat.{mul-le-mul}
+use native.Mathlib.Omega.{arith}
 use lib.IntN.{ℤ, pos, _+ℤ_, _*ℤ_, *ℤ-comm}
 use Rattle.whole.specs.Expand.{*ℤ-left, expand}
 use Rattle.whole.specs.Round.{onTie}
 use Rattle.whole.specs.RoundLaws.{onTie-scaled, rounded-same}
+use Rattle.whole.specs.Within.{lit, widen, within-+, within-*}
+use Rattle.tallies.specs.Bounds.{Fair}
+use Rattle.tallies.specs.declared.Mean.{Mean}
 use Rattle.rates.specs.Rules.{halfway, nearest}
-use Rattle.rates.specs.declared.Mean.{Mean}
 
 -- K times the mean is x
 abbrev pub Times : ℕ → Mean → ℤ → Type 0
@@ -43,3 +47,15 @@ halfway-crossed a b =
 pub nearest-same : (a b : Mean) → 0 < a .weight → 0 < b .weight → a .sum *ℤ pos (b .weight) ≡ b .sum *ℤ pos (a .weight)
     → nearest a ≡ nearest b
 nearest-same a b h k e = rounded-same onTie onTie-scaled (a .sum) (b .sum) (a .weight) (b .weight) h k e
+
+-- ---- its weight and its size
+pub fair-halfway : {A B : ℕ} (a b : Mean) → Fair A a → Fair B b → Fair (2 * (A * B)) (halfway a b)
+unfolding halfway
+fair-halfway {A} {B} a b f g = record {
+  weight = omega (arith, mul-le-mul (f .weight) (g .weight));
+  sum = widen (within-+ (within-* (f .sum) (lit (pos (b .weight)))) (within-* (g .sum) (lit (pos (a .weight))))) (omega arith);
+}
+
+pub halfway-weighs : (a b : Mean) → 0 < a .weight → 0 < b .weight → 0 < halfway a b .weight
+unfolding halfway
+halfway-weighs a b h k = let g : 1 * 1 ≤ a .weight * b .weight = mul-le-mul h k in omega arith

@@ -7,8 +7,9 @@ use lib.IntN.{ℤ, pos, negsuc}
 use Rattle.lists.specs.Those.{those}
 use Rattle.whole.specs.Round.{nearestSize, withSign}
 use Rattle.whole.specs.Sums.{sumZ}
-use Rattle.rates.specs.Day.{Trade, Quote, inLastHour, windowStart}
-use Rattle.rates.specs.Rules.{total, meanOf, halfway, ruleAt, settled}
+use Rattle.tallies.specs.Means.{meanOf, total}
+use Rattle.tallies.specs.Day.{Trade, Quote, inLastHour, windowStart}
+use Rattle.rates.specs.Rules.{halfway, ruleAt, settled}
 use Rattle.rates.specs.declared.Rule.{Rule}
 use Rattle.rates.specs.declared.Rule.the-variants.{LastHour, Quotes}
 use Rattle.rates.specs.declared.Settled.{Settled}

@@ -1,12 +1,8 @@
-pub mod Day
 pub mod Rules
-pub mod Tally
-pub mod Bounds
-pub mod MeanLaws
+pub mod Settling
 pub mod CountLaws
-pub mod TallyLaws
-pub mod RuleLaws
 pub mod ExactLaws
+pub mod RuleLaws
 pub mod BetweenLaws
 pub mod OrderLaws
 pub mod MirrorLaws

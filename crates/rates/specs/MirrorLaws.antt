@@ -14,13 +14,14 @@ use Rattle.whole.specs.Expand.{neg-*ℤ, *ℤ-neg}
 use Rattle.whole.specs.Round.{onTie}
 use Rattle.whole.specs.RoundLaws.{rounded-neg}
 use Rattle.whole.specs.Sums.{sumZ}
-use Rattle.rates.specs.Day.{Trade, Quote, inLastHour, lateTrades, lastFive, counted, bidsOf, offersOf}
-use Rattle.rates.specs.Rules.{total, meanOf, halfway, nearest, byLots, once, ruleOf, usedBy, rateBy, settled}
-use Rattle.rates.specs.Tally.{meanWith}
-use Rattle.rates.specs.MeanLaws.{mean-first, halfway-weighs}
+use Rattle.tallies.specs.Means.{byLots, meanOf, meanWith, once, total}
+use Rattle.tallies.specs.Day.{Trade, Quote, inLastHour, lateTrades, lastFive, counted, bidsOf, offersOf}
+use Rattle.tallies.specs.MeanLaws.{mean-first}
+use Rattle.tallies.specs.declared.Weighted.{Weighted}
+use Rattle.tallies.specs.declared.Mean.{Mean}
+use Rattle.rates.specs.ExactLaws.{halfway-weighs}
+use Rattle.rates.specs.Rules.{halfway, nearest, ruleOf, usedBy, rateBy, settled}
 use Rattle.rates.specs.CountLaws.{Weighs, rule-weighs}
-use Rattle.rates.specs.declared.Weighted.{Weighted}
-use Rattle.rates.specs.declared.Mean.{Mean}
 use Rattle.rates.specs.declared.Rule.{Rule}
 use Rattle.rates.specs.declared.Rule.the-variants.{LastHour, LastFive, Quotes, Previous, Final}
 use Rattle.rates.specs.declared.Settled.{Settled}

@@ -8,13 +8,13 @@ use native.Mathlib.Nat.{add-right-comm}
 use lib.IntN.{ℤ, _+ℤ_, +ℤ-comm, +ℤ-assoc}
 use lib.ListN.{length, length-map}
 use borrow.Author.Tests.{le-leb}
-use Rattle.rates.specs.Day.{Trade, Quote, lateTrades, bidsOf, offersOf}
-use Rattle.rates.specs.Rules.{worth, meanOf, nearest, byLots, ruleAt, ruleOf, settled}
-use Rattle.rates.specs.Tally.{meanWith}
-use Rattle.rates.specs.MeanLaws.{mean-first}
+use Rattle.tallies.specs.Means.{byLots, meanOf, meanWith, worth}
+use Rattle.tallies.specs.Day.{Trade, Quote, lateTrades, bidsOf, offersOf}
+use Rattle.tallies.specs.MeanLaws.{mean-first}
+use Rattle.tallies.specs.declared.Weighted.{Weighted}
+use Rattle.tallies.specs.declared.Mean.{Mean}
+use Rattle.rates.specs.Rules.{nearest, ruleAt, ruleOf, settled}
 use Rattle.rates.specs.CountLaws.{AsksOf, rule-asks-of}
-use Rattle.rates.specs.declared.Weighted.{Weighted}
-use Rattle.rates.specs.declared.Mean.{Mean}
 use Rattle.rates.specs.declared.Rule.the-variants.{LastHour}
 
 -- ---- a mean has no order

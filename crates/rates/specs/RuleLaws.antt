@@ -12,15 +12,18 @@ use Rattle.lists.specs.Rows.{drop-map}
 use Rattle.whole.specs.RoundLaws.{rounded-within, onTie-rule}
 use Rattle.whole.specs.Round.{onTie}
 use Rattle.whole.specs.Within.{Within}
-use Rattle.rates.specs.Day.{Trade, Quote, lateTrades, lastFive, bidsOf, offersOf}
-use Rattle.rates.specs.Rules.{meanOf, halfway, nearest, byLots, once, ruleAt, ruleOf, usedBy, rateBy, settled}
-use Rattle.rates.specs.Tally.{none, latestOf, tallyFrom, tallyOf, ruleFrom, usedFrom, rateFrom, settledFrom}
-use Rattle.rates.specs.Bounds.{GoodDay, Fair, Sound, Divides}
-use Rattle.rates.specs.MeanLaws.{once-weigh, weight-most, fair-of, fair-halfway, halfway-weighs}
+use Rattle.tallies.specs.Means.{byLots, meanOf, once}
+use Rattle.tallies.specs.Day.{Trade, Quote, lateTrades, lastFive, bidsOf, offersOf}
+use Rattle.tallies.specs.Tally.{none, latestOf, tallyFrom, tallyOf}
+use Rattle.tallies.specs.Bounds.{GoodDay, Fair, Sound}
+use Rattle.tallies.specs.MeanLaws.{once-weigh, weight-most, fair-of}
+use Rattle.tallies.specs.TallyLaws.{day-sound}
+use Rattle.tallies.specs.declared.Mean.{Mean}
+use Rattle.tallies.specs.declared.Tally.{Tally}
+use Rattle.rates.specs.Settling.{Divides, rateFrom, ruleFrom, settledFrom, usedFrom}
+use Rattle.rates.specs.ExactLaws.{fair-halfway, halfway-weighs}
+use Rattle.rates.specs.Rules.{halfway, nearest, ruleAt, ruleOf, usedBy, rateBy, settled}
 use Rattle.rates.specs.CountLaws.{Asks, rule-asks, AsksOf, rule-asks-of, five-last}
-use Rattle.rates.specs.TallyLaws.{day-sound}
-use Rattle.rates.specs.declared.Mean.{Mean}
-use Rattle.rates.specs.declared.Tally.{Tally}
 use Rattle.rates.specs.declared.Rule.{Rule}
 use Rattle.rates.specs.declared.Rule.the-variants.{LastHour, LastFive, Quotes, Previous, Final}
 use Rattle.rates.specs.declared.Settled.{Settled}

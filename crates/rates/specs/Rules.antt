@@ -1,34 +1,21 @@
 -- Document 01, 'Settlement rate': which of the five rules gives a contract's rate, at which rate, from how many trades or
 -- counted quotes.
 use mathlib.Core.Bool.{Bool, _&&_, cond}
-use mathlib.Core.List.{List, [], _∷_, _++_, map}
+use mathlib.Core.List.{List, [], _++_, map}
 use Prim.Native.Nat.{ℕ, _+_, _*_}
 use lib.Dec.{leb}
 use lib.IntN.{ℤ, pos, _+ℤ_, _*ℤ_}
 use lib.ListN.{length}
 use Rattle.whole.specs.Round.{rounded}
-use Rattle.whole.specs.Sums.{sumZ}
-use Rattle.rates.specs.Day.{Trade, Quote, lateTrades, lastFive, bidsOf, offersOf}
-use Rattle.rates.specs.declared.Weighted.{Weighted}
-use Rattle.rates.specs.declared.Mean.{Mean}
+use Rattle.tallies.specs.Day.{Trade, Quote, lateTrades, lastFive, bidsOf, offersOf}
+use Rattle.tallies.specs.Means.{meanOf, byLots, once}
+use Rattle.tallies.specs.declared.Weighted.{Weighted}
+use Rattle.tallies.specs.declared.Mean.{Mean}
 use Rattle.rates.specs.declared.Rule.{Rule}
 use Rattle.rates.specs.declared.Rule.the-variants.{LastHour, LastFive, Quotes, Previous, Final}
 use Rattle.rates.specs.declared.Settled.{Settled}
 
--- ---- means, not yet divided
--- A mean is held as its two sums, so that there is "one rounding at the end".
-
-unfoldable pub total : List ℕ → ℕ
-total [] = 0
-total (x ∷ xs) = x + total xs
-
--- a weight times its rate
-abbrev pub worth : Weighted → ℤ
-worth w = pos (w .weight) *ℤ w .rate
-
-unfoldable pub meanOf : List Weighted → Mean
-meanOf ws = record { sum = sumZ (map worth ws); weight = total (map (λ w. w .weight) ws) }
-
+-- ---- one rounding at the end
 -- "half of (mean bid + mean offer)": half of A / a + B / b is (A b + B a) / 2 a b.
 unfoldable pub halfway : Mean → Mean → Mean
 halfway a b = record {
@@ -39,18 +26,6 @@ halfway a b = record {
 -- "One rounding at the end, to nearest, ties away from zero (house)."
 abbrev pub nearest : Mean → ℤ
 nearest m = rounded (m .sum) (m .weight)
-
--- ---- what is weighed
-abbrev pub weighted : ℕ → ℤ → Weighted
-weighted weight rate = record { weight = weight; rate = rate }
-
--- "lot-weighted mean": a trade weighs its lots.
-abbrev pub byLots : Trade → Weighted
-byLots t = weighted (t .lots) (t .rate)
-
--- "mean bid", "mean offer": a quote weighs 1.
-abbrev pub once : Quote → Weighted
-once q = weighted 1 (q .rate)
 
 -- ---- the rules
 -- The rule's number in document 01.

@@ -2,8 +2,8 @@ use native.Mathlib.Nat.{mul-le-mul}
 use native.Mathlib.Omega.{arith}
 use borrow.Author.Needs.{needs}
 use Rattle.whole.specs.Machine.{arg, kept, fits, unsigned, add, mul}
+use Rattle.tallies.specs.MeanLaws.{fair-size}
 use Rattle.rates.specs.Rules.{halfway}
-use Rattle.rates.specs.MeanLaws.{fair-size}
 use Rattle.rates.proofs.half_of.Statement.{statement}
 use Rattle.rates.proofs.half_of.Tie as tie
 

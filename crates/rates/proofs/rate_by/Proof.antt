@@ -1,9 +1,9 @@
 use mathlib.Core.Path.{_≡_, subst, ap, _∙_}
 use borrow.Author.Needs.{needs}
 use Rattle.whole.specs.Machine.{told, back}
+use Rattle.rates.specs.Settling.{Divides}
+use Rattle.rates.specs.ExactLaws.{halfway-weighs}
 use Rattle.rates.specs.Rules.{nearest}
-use Rattle.rates.specs.Bounds.{Divides}
-use Rattle.rates.specs.MeanLaws.{halfway-weighs}
 use Rattle.rates.specs.declared.Rule.{Rule}
 use Rattle.rates.proofs.rate_by.Statement.{statement}
 use Rattle.rates.proofs.rate_by.Tie as tie

@@ -1,7 +1,7 @@
 use mathlib.Core.Path.{ap₂, _∙_}
 use borrow.Author.Needs.{needs}
 use Rattle.whole.specs.Machine.{told, back}
-use Rattle.rates.specs.Tally.{rateFrom}
+use Rattle.rates.specs.Settling.{rateFrom}
 use Rattle.rates.specs.RuleLaws.{settled-by, rule-divides}
 use Rattle.rates.proofs.settle.Statement.{statement}
 use Rattle.rates.proofs.settle.Tie as tie

@@ -1,6 +1,6 @@
 use mathlib.Core.Path.{sym, ap}
 use borrow.Author.Needs.{needs}
-use Rattle.rates.specs.Tally.{usedFrom}
+use Rattle.rates.specs.Settling.{usedFrom}
 use Rattle.rates.proofs.used_by.Statement.{statement}
 use Rattle.rates.proofs.used_by.Tie as tie
 

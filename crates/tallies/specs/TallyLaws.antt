@@ -14,14 +14,14 @@ use Rattle.lists.specs.Keep.{cond-keeps, more-keeps, replicate-keeps}
 use Rattle.lists.specs.Rows.{map-append}
 use Rattle.lists.specs.Those.{those, those-more}
 use Rattle.whole.specs.Within.{Within}
-use Rattle.rates.specs.Day.{Trade, Quote, inLastHour, lateTrades, counted, bidsOf, offersOf}
-use Rattle.rates.specs.Rules.{meanOf, byLots, once}
-use Rattle.rates.specs.Tally.{none, latestOf, tallyFrom, tallyOf, meanWith, shifted, inDay, inHour, withTrade, withBid, withOffer, withQuote}
-use Rattle.rates.specs.Bounds.{GoodTrade, GoodQuote, GoodDay, Small, EachSmall, Fair, Sound, TradeFits, QuoteFits}
-use Rattle.rates.specs.MeanLaws.{mean-more, mean-none, once-weigh, small-none, fair-none, fair-with, fair-of}
-use Rattle.rates.specs.declared.Weighted.{Weighted}
-use Rattle.rates.specs.declared.Mean.{Mean}
-use Rattle.rates.specs.declared.Tally.{Tally}
+use Rattle.tallies.specs.Day.{Trade, Quote, inLastHour, lateTrades, counted, bidsOf, offersOf}
+use Rattle.tallies.specs.Means.{meanOf, meanWith, byLots, once}
+use Rattle.tallies.specs.Tally.{none, latestOf, tallyFrom, tallyOf, shifted, inDay, inHour, withTrade, withBid, withOffer, withQuote}
+use Rattle.tallies.specs.Bounds.{GoodTrade, GoodQuote, GoodDay, Small, EachSmall, Fair, Sound, TradeFits, QuoteFits}
+use Rattle.tallies.specs.MeanLaws.{mean-more, mean-none, once-weigh, small-none, fair-none, fair-with, fair-of}
+use Rattle.tallies.specs.declared.Weighted.{Weighted}
+use Rattle.tallies.specs.declared.Mean.{Mean}
+use Rattle.tallies.specs.declared.Tally.{Tally}
 
 -- ---- the last five
 length-last : {X : Type 0} (xs : List X) (x : X) → length (xs ++ (x ∷ [])) ≡ length xs + 1

@@ -3,11 +3,11 @@ use Prim.Native.Nat.{_-_, _≤_}
 use native.Mathlib.Omega.{arith}
 use lib.ListN.{length, take, getD, length-take}
 use lib.Seq.{take-all}
-use Rattle.rates.specs.Rules.{meanOf}
-use Rattle.rates.specs.Tally.{none, meanWith}
-use Rattle.rates.specs.MeanLaws.{mean-none, mean-step, each-take, fair-of, fair-wider}
-use Rattle.rates.proofs.mean_of.Statement.{statement}
-use Rattle.rates.proofs.mean_of.Tie as tie
+use Rattle.tallies.specs.Means.{meanOf, meanWith}
+use Rattle.tallies.specs.Tally.{none}
+use Rattle.tallies.specs.MeanLaws.{mean-none, mean-step, each-take, fair-of, fair-wider}
+use Rattle.tallies.proofs.mean_of.Statement.{statement}
+use Rattle.tallies.proofs.mean_of.Tie as tie
 
 -- the mean of those that the loop has passed
 abbrev Inv-loop : tie.InvT-loop

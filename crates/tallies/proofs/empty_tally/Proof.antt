@@ -1,10 +1,10 @@
 use mathlib.Core.Path.{refl}
 use Rattle.lists.specs.Those.{those}
 use Rattle.whole.specs.Sums.{sumZ}
-use Rattle.rates.specs.Rules.{total, meanOf}
-use Rattle.rates.specs.Tally.{latestOf, tallyFrom}
-use Rattle.rates.proofs.empty_tally.Statement.{statement}
-use Rattle.rates.proofs.empty_tally.Tie as tie
+use Rattle.tallies.specs.Means.{meanOf, total}
+use Rattle.tallies.specs.Tally.{latestOf, tallyFrom}
+use Rattle.tallies.proofs.empty_tally.Statement.{statement}
+use Rattle.tallies.proofs.empty_tally.Tie as tie
 
 returns : tie.Need-returns
 unfolding tallyFrom latestOf those meanOf total sumZ

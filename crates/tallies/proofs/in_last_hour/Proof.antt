@@ -1,7 +1,7 @@
 use borrow.Author.Tests.{lt-leb, le-leb}
-use Rattle.rates.specs.Day.{inLastHour, windowStart}
-use Rattle.rates.proofs.in_last_hour.Statement.{statement}
-use Rattle.rates.proofs.in_last_hour.Tie as tie
+use Rattle.tallies.specs.Day.{inLastHour, windowStart}
+use Rattle.tallies.proofs.in_last_hour.Statement.{statement}
+use Rattle.tallies.proofs.in_last_hour.Tie as tie
 
 returns : tie.Need-returns
 unfolding inLastHour

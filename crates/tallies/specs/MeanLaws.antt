@@ -3,7 +3,7 @@ use mathlib.Core.Path.{_≡_, refl, ap, _∙_}
 use mathlib.Core.List.{List, [], _∷_, _++_, map}
 use Prim.Native.Nat.{ℕ, zero, suc, _+_, _*_, _≤_, _<_}
 use native.Mathlib.Numerals.{add-one}
-use native.Mathlib.Nat.{add-comm, mul-le-mul}
+use native.Mathlib.Nat.{add-comm}
 use native.Mathlib.Omega.{arith}
 use lib.IntN.{pos, +ℤ-comm}
 use lib.ListN.{length, take, getD}
@@ -11,12 +11,12 @@ use lib.Seq.{take-suc}
 use Rattle.lists.specs.Rows.{map-append}
 use Rattle.whole.specs.Sums.{sumZ, sum-last}
 use Rattle.whole.specs.Within.{Within, lit, widen, within-+, within-*}
-use Rattle.rates.specs.Day.{Quote}
-use Rattle.rates.specs.Rules.{total, worth, meanOf, halfway, once}
-use Rattle.rates.specs.Tally.{none, meanWith}
-use Rattle.rates.specs.Bounds.{Small, EachSmall, Fair}
-use Rattle.rates.specs.declared.Weighted.{Weighted}
-use Rattle.rates.specs.declared.Mean.{Mean}
+use Rattle.tallies.specs.Day.{Quote}
+use Rattle.tallies.specs.Means.{total, worth, meanOf, meanWith, once}
+use Rattle.tallies.specs.Tally.{none}
+use Rattle.tallies.specs.Bounds.{Small, EachSmall, Fair}
+use Rattle.tallies.specs.declared.Weighted.{Weighted}
+use Rattle.tallies.specs.declared.Mean.{Mean}
 
 -- ---- one rate more
 total-last : (ns : List ℕ) (n : ℕ) → total (ns ++ (n ∷ [])) ≡ total ns + n
@@ -105,14 +105,3 @@ fair-size m f = widen (f .sum) (omega (arith, f .weight))
 
 pub fair-wider : {A B : ℕ} (m : Mean) → Fair A m → A ≤ B → Fair B m
 fair-wider m f h = record { weight = omega (arith, f .weight); sum = f .sum }
-
-pub fair-halfway : {A B : ℕ} (a b : Mean) → Fair A a → Fair B b → Fair (2 * (A * B)) (halfway a b)
-unfolding halfway
-fair-halfway {A} {B} a b f g = record {
-  weight = omega (arith, mul-le-mul (f .weight) (g .weight));
-  sum = widen (within-+ (within-* (f .sum) (lit (pos (b .weight)))) (within-* (g .sum) (lit (pos (a .weight))))) (omega arith);
-}
-
-pub halfway-weighs : (a b : Mean) → 0 < a .weight → 0 < b .weight → 0 < halfway a b .weight
-unfolding halfway
-halfway-weighs a b h k = let g : 1 * 1 ≤ a .weight * b .weight = mul-le-mul h k in omega arith

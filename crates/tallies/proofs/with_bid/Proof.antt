@@ -1,7 +1,7 @@
 use borrow.Author.Needs.{needs}
-use Rattle.rates.specs.Tally.{withBid}
-use Rattle.rates.proofs.with_bid.Statement.{statement}
-use Rattle.rates.proofs.with_bid.Tie as tie
+use Rattle.tallies.specs.Tally.{withBid}
+use Rattle.tallies.proofs.with_bid.Statement.{statement}
+use Rattle.tallies.proofs.with_bid.Tie as tie
 
 mean-with-requires : tie.Need-mean-with-requires
 mean-with-requires c κs = search needs

@@ -8,14 +8,11 @@ use Prim.Native.Nat.{ℕ, _*_, _≤_, _<_}
 use lib.ListN.{length, getD}
 use Rattle.lists.specs.All.{All}
 use Rattle.whole.specs.Within.{Within}
-use Rattle.rates.specs.Day.{Trade, Quote, inLastHour, bidsOf, offersOf}
-use Rattle.rates.specs.Rules.{meanOf}
-use Rattle.rates.specs.Tally.{none}
-use Rattle.rates.specs.declared.Weighted.{Weighted}
-use Rattle.rates.specs.declared.Mean.{Mean}
-use Rattle.rates.specs.declared.Tally.{Tally}
-use Rattle.rates.specs.declared.Rule.{Rule}
-use Rattle.rates.specs.declared.Rule.the-variants.{LastHour, LastFive, Quotes, Previous, Final}
+use Rattle.tallies.specs.Day.{Trade, Quote, inLastHour, bidsOf, offersOf}
+use Rattle.tallies.specs.Tally.{none}
+use Rattle.tallies.specs.declared.Weighted.{Weighted}
+use Rattle.tallies.specs.declared.Mean.{Mean}
+use Rattle.tallies.specs.declared.Tally.{Tally}
 
 -- ---- a day within the ceilings
 pub record GoodTrade (t : Trade) : Type 0 where
@@ -71,11 +68,3 @@ pub record QuoteFits (t : Tally) (time side : ℕ) (w : Weighted) : Type 0 where
   pub offers : inLastHour time ≡ true → side ≡ 1 → t .offers .weight < 10000
   pub one : w .weight ≡ 1
   pub rate : Within 100000 (w .rate)
-
--- ---- what a rule divides by is above zero
-abbrev pub Divides : Rule → Tally → Type 0
-Divides LastHour t = 0 < t .hour .weight
-Divides LastFive t = 0 < meanOf (t .latest) .weight
-Divides Quotes t = (0 < t .bids .weight) × (0 < t .offers .weight)
-Divides Previous t = Unit {0}
-Divides Final t = Unit {0}

@@ -4,13 +4,13 @@ use mir.Syntax.{w64}
 use mir.Val.{toZ, ofZ}
 use borrow.Author.Needs.{needs}
 use Rattle.whole.specs.Machine.{arg, pass}
-use Rattle.rates.specs.Rules.{weighted}
-use Rattle.rates.specs.Tally.{inDay, inHour}
-use Rattle.rates.specs.MeanLaws.{fair-wider}
-use Rattle.rates.specs.TallyLaws.{trade-late, trade-early}
-use Rattle.rates.specs.declared.Weighted.{Weighted}
-use Rattle.rates.proofs.with_trade.Statement.{statement}
-use Rattle.rates.proofs.with_trade.Tie as tie
+use Rattle.tallies.specs.Means.{weighted}
+use Rattle.tallies.specs.Tally.{inDay, inHour}
+use Rattle.tallies.specs.MeanLaws.{fair-wider}
+use Rattle.tallies.specs.TallyLaws.{trade-late, trade-early}
+use Rattle.tallies.specs.declared.Weighted.{Weighted}
+use Rattle.tallies.proofs.with_trade.Statement.{statement}
+use Rattle.tallies.proofs.with_trade.Tie as tie
 
 abbrev traded : tie.Start → Weighted
 traded s = weighted (s .args .lots) (s .args .rate)

@@ -1,7 +1,7 @@
 use borrow.Author.Needs.{needs}
-use Rattle.rates.specs.TallyLaws.{shifted-is}
-use Rattle.rates.proofs.shifted.Statement.{statement}
-use Rattle.rates.proofs.shifted.Tie as tie
+use Rattle.tallies.specs.TallyLaws.{shifted-is}
+use Rattle.tallies.proofs.shifted.Statement.{statement}
+use Rattle.tallies.proofs.shifted.Tie as tie
 
 array-copy-out-p : tie.Need-array-copy-out-p
 array-copy-out-p c = search needs

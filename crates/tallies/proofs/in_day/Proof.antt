@@ -1,7 +1,7 @@
 use borrow.Author.Needs.{needs}
-use Rattle.rates.specs.Tally.{inDay}
-use Rattle.rates.proofs.in_day.Statement.{statement}
-use Rattle.rates.proofs.in_day.Tie as tie
+use Rattle.tallies.specs.Tally.{inDay}
+use Rattle.tallies.proofs.in_day.Statement.{statement}
+use Rattle.tallies.proofs.in_day.Tie as tie
 
 shifted-requires : tie.Need-shifted-requires
 shifted-requires c κs = search needs

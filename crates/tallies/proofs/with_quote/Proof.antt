@@ -5,13 +5,13 @@ use mir.Val.{toZ, ofZ}
 use borrow.Author.Needs.{needs}
 use borrow.Author.Tests.{not-true, not-false, eq-eqb, ne-eqb}
 use Rattle.whole.specs.Machine.{arg}
-use Rattle.rates.specs.Day.{inLastHour}
-use Rattle.rates.specs.Rules.{weighted}
-use Rattle.rates.specs.Tally.{withBid, withOffer}
-use Rattle.rates.specs.TallyLaws.{quote-early, quote-bids, quote-offers, quote-of-no-side}
-use Rattle.rates.specs.declared.Weighted.{Weighted}
-use Rattle.rates.proofs.with_quote.Statement.{statement}
-use Rattle.rates.proofs.with_quote.Tie as tie
+use Rattle.tallies.specs.Means.{weighted}
+use Rattle.tallies.specs.Day.{inLastHour}
+use Rattle.tallies.specs.Tally.{withBid, withOffer}
+use Rattle.tallies.specs.TallyLaws.{quote-early, quote-bids, quote-offers, quote-of-no-side}
+use Rattle.tallies.specs.declared.Weighted.{Weighted}
+use Rattle.tallies.proofs.with_quote.Statement.{statement}
+use Rattle.tallies.proofs.with_quote.Tie as tie
 
 abbrev quoted : tie.Start → Weighted
 quoted s = weighted 1 (s .args .rate)

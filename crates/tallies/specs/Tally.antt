@@ -1,19 +1,15 @@
--- A tally holds of a contract's day what settlement needs. Here: the tally of two lists, what one trade or one quote more
--- makes of a tally, and what settles from it. TallyLaws says that these go together.
-use mathlib.Core.Bool.{Bool, _&&_, cond}
+-- A tally holds of a contract's day what settlement needs. Here: the tally of two lists, and what one trade or one quote
+-- more makes of a tally. TallyLaws says that these go together.
+use mathlib.Core.Bool.{_&&_, cond}
 use mathlib.Core.List.{List, [], _∷_, _++_, map}
 use Prim.Native.Nat.{ℕ, _+_}
 use lib.Dec.{eqb}
-use lib.IntN.{ℤ, pos, _+ℤ_}
+use lib.IntN.{pos}
 use lib.ListN.{length, drop, replicate}
-use Rattle.rates.specs.Day.{Trade, Quote, inLastHour, lateTrades, bidsOf, offersOf}
-use Rattle.rates.specs.Rules.{worth, meanOf, halfway, nearest, weighted, byLots, once, ruleAt}
-use Rattle.rates.specs.declared.Weighted.{Weighted}
-use Rattle.rates.specs.declared.Mean.{Mean}
-use Rattle.rates.specs.declared.Tally.{Tally}
-use Rattle.rates.specs.declared.Rule.{Rule}
-use Rattle.rates.specs.declared.Rule.the-variants.{LastHour, LastFive, Quotes, Previous, Final}
-use Rattle.rates.specs.declared.Settled.{Settled}
+use Rattle.tallies.specs.Day.{Trade, Quote, inLastHour, lateTrades, bidsOf, offersOf}
+use Rattle.tallies.specs.Means.{meanOf, meanWith, weighted, byLots, once}
+use Rattle.tallies.specs.declared.Weighted.{Weighted}
+use Rattle.tallies.specs.declared.Tally.{Tally}
 
 -- ---- of lists
 -- no trade
@@ -38,9 +34,6 @@ abbrev pub tallyOf : List Trade → List Quote → Tally
 tallyOf trades quotes = tallyFrom trades (lateTrades trades) (bidsOf quotes) (offersOf quotes)
 
 -- ---- one more
-unfoldable pub meanWith : Mean → Weighted → Mean
-meanWith m w = record { sum = m .sum +ℤ worth w; weight = m .weight + w .weight }
-
 abbrev pub shifted : List Weighted → Weighted → List Weighted
 shifted ws w = drop 1 ws ++ (w ∷ [])
 
@@ -91,29 +84,3 @@ withOffer t w = record {
 abbrev pub withQuote : Tally → ℕ → ℕ → Weighted → Tally
 withQuote t time side w =
     cond (inLastHour time && eqb side 0) (withBid t w) (cond (inLastHour time && eqb side 1) (withOffer t w) t)
-
--- ---- settling
-module _ (t : Tally) where
-  abbrev pub ruleFrom : Bool → Rule
-  ruleFrom ending = ruleAt (t .late) (t .trades) (t .bids .weight) (t .offers .weight) ending
-
-  abbrev pub usedFrom : Rule → ℕ
-  usedFrom LastHour = t .late
-  usedFrom LastFive = 5
-  usedFrom Quotes = t .bids .weight + t .offers .weight
-  usedFrom Previous = 0
-  usedFrom Final = 0
-
-  abbrev pub rateFrom : Rule → ℤ → ℤ → ℤ
-  rateFrom LastHour previous final = nearest (t .hour)
-  rateFrom LastFive previous final = nearest (meanOf (t .latest))
-  rateFrom Quotes previous final = nearest (halfway (t .bids) (t .offers))
-  rateFrom Previous previous final = previous
-  rateFrom Final previous final = final
-
-  unfoldable pub settledFrom : ℤ → Bool → ℤ → Settled
-  settledFrom previous ending final = record {
-    rate = rateFrom (ruleFrom ending) previous final;
-    rule = ruleFrom ending;
-    used = usedFrom (ruleFrom ending);
-  }

@@ -1,9 +1,9 @@
 use borrow.Author.Needs.{needs}
 use Rattle.whole.specs.Machine.{arg, kept, fits, unsigned, add, mul}
-use Rattle.rates.specs.Tally.{meanWith}
-use Rattle.rates.specs.MeanLaws.{fair-size}
-use Rattle.rates.proofs.mean_with.Statement.{statement}
-use Rattle.rates.proofs.mean_with.Tie as tie
+use Rattle.tallies.specs.Means.{meanWith}
+use Rattle.tallies.specs.MeanLaws.{fair-size}
+use Rattle.tallies.proofs.mean_with.Statement.{statement}
+use Rattle.tallies.proofs.mean_with.Tie as tie
 
 cast-by : tie.Need-cast-by
 cast-by c = search needs

@@ -1,7 +1,7 @@
 use borrow.Author.Needs.{needs}
-use Rattle.rates.specs.Tally.{withOffer}
-use Rattle.rates.proofs.with_offer.Statement.{statement}
-use Rattle.rates.proofs.with_offer.Tie as tie
+use Rattle.tallies.specs.Tally.{withOffer}
+use Rattle.tallies.proofs.with_offer.Statement.{statement}
+use Rattle.tallies.proofs.with_offer.Tie as tie
 
 mean-with-requires : tie.Need-mean-with-requires
 mean-with-requires c κs = search needs

@@ -1,7 +1,7 @@
 use borrow.Author.Needs.{needs}
-use Rattle.rates.specs.Tally.{inHour}
-use Rattle.rates.proofs.in_hour.Statement.{statement}
-use Rattle.rates.proofs.in_hour.Tie as tie
+use Rattle.tallies.specs.Tally.{inHour}
+use Rattle.tallies.proofs.in_hour.Statement.{statement}
+use Rattle.tallies.proofs.in_hour.Tie as tie
 
 mean-with-requires : tie.Need-mean-with-requires
 mean-with-requires c κs = search needs

@@ -1,0 +1,6 @@
+pub mod Day
+pub mod Means
+pub mod Tally
+pub mod Bounds
+pub mod MeanLaws
+pub mod TallyLaws
