@@ -54,22 +54,21 @@ fn with_trades(day: Tally, time: u64, lots: u64, rate: i64, times: u64) -> Outco
 
 // Whether a quote would be one too many on its side. Outside the last hour it counts nowhere.
 fn is_full(day: Tally, time: u64, side: u64) -> bool
+    requires { ⌜ side < 2 ⌝ }
     ensures { λ r. ⌜ (r ≡ false → HasRoom day time side) ⌝ }
 {
     if !tallies::in_last_hour(time) {
         return false;
     }
-    if side == 0 {
-        let bids = day.bids;
-        return MOST <= bids.weight;
-    }
-    let offers = day.offers;
-    MOST <= offers.weight
+    let quotes = day.quotes;
+    let at = side as usize;
+    let mean = quotes[at];
+    MOST <= mean.weight
 }
 
 // A quote, some times over: all of them or none.
 fn with_quotes(day: Tally, time: u64, side: u64, rate: i64, times: u64) -> Outcome
-    requires { ⌜ Sound day × Within 100000 rate ⌝ }
+    requires { ⌜ Sound day × (side < 2) × Within 100000 rate ⌝ }
     ensures { λ r. ⌜ Sound (r .day) ⌝ }
 {
     let mut more = day;

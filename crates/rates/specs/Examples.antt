@@ -48,7 +48,8 @@ unfolding settled ruleAt those inLastHour meanOf total sumZ nearestSize withSign
 example-7 = refl
 
 -- "Bids 10, 11, offer 12: 11.25, rate 11."
-pub example-8 : settled [] (bid windowStart (pos 10) ∷ bid windowStart (pos 11) ∷ offer windowStart (pos 12) ∷ []) (pos 0) false (pos 0)
+pub example-8 :
+    settled [] (bid windowStart (pos 10) ∷ bid windowStart (pos 11) ∷ offer windowStart (pos 12) ∷ []) (pos 0) false (pos 0)
     ≡ by Quotes (pos 11) 3
 unfolding settled ruleAt those inLastHour meanOf halfway total sumZ nearestSize withSign
 example-8 = refl

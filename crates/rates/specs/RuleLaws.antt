@@ -14,7 +14,7 @@ use Rattle.whole.specs.Round.{onTie}
 use Rattle.whole.specs.Within.{Within}
 use Rattle.tallies.specs.Means.{byLots, meanOf, once}
 use Rattle.tallies.specs.Day.{Trade, Quote, lateTrades, lastFive, bidsOf, offersOf}
-use Rattle.tallies.specs.Tally.{none, latestOf, tallyFrom, tallyOf}
+use Rattle.tallies.specs.Tally.{none, latestOf, tallyFrom, tallyOf, sideIn}
 use Rattle.tallies.specs.Bounds.{GoodDay, Fair, Sound}
 use Rattle.tallies.specs.MeanLaws.{once-weigh, weight-most, fair-of}
 use Rattle.tallies.specs.TallyLaws.{day-sound}
@@ -51,7 +51,9 @@ module _ (trades : List Trade) (quotes : List Quote) (previous : ℤ) (ending : 
 
   -- rate and count are the same by the rule that applies
   abbrev Alike : Rule → Type 0
-  Alike rule = (rateFrom t rule previous final ≡ rateBy trades quotes rule previous final) × (usedFrom t rule ≡ length (usedBy trades quotes rule))
+  Alike rule =
+      (rateFrom t rule previous final ≡ rateBy trades quotes rule previous final)
+      × (usedFrom t rule ≡ length (usedBy trades quotes rule))
 
   alike : Alike (ruleOf trades quotes ending)
   unfolding tallyFrom
@@ -88,9 +90,9 @@ settled-by t previous ending final {s} rule used rate = rw (← rule, ← used, 
 -- ---- sizes
 module _ (t : Tally) (s : Sound t) where
   pub rule-divides : (ending : Bool) → Divides (ruleFrom t ending) t
-  rule-divides ending = go (ruleFrom t ending) (rule-asks (t .late) (t .trades) (t .bids .weight) (t .offers .weight) ending)
+  rule-divides ending = go (ruleFrom t ending) (rule-asks (t .late) (t .trades) (sideIn t 0 .weight) (sideIn t 1 .weight) ending)
     where
-      go : (rule : Rule) → Asks (t .late) (t .trades) (t .bids .weight) (t .offers .weight) ending rule → Divides rule t
+      go : (rule : Rule) → Asks (t .late) (t .trades) (sideIn t 0 .weight) (sideIn t 1 .weight) ending rule → Divides rule t
       go LastHour h = omega (arith, h .1, s .least)
       go LastFive h = omega (arith, h, s .newest (omega arith), weight-most (t .latest) 4)
       go Quotes h = h
@@ -108,7 +110,11 @@ module _ (t : Tally) (s : Sound t) where
       go : (rule : Rule) → Divides rule t → Within 100000 (rateFrom t rule previous final)
       go LastHour d = nearest-within (t .hour) (s .hour) d
       go LastFive d = nearest-within (meanOf (t .latest)) (fair-of (t .latest) (s .latest)) d
-      go Quotes d = nearest-within (halfway (t .bids) (t .offers)) (fair-halfway (t .bids) (t .offers) (s .bids) (s .offers)) (halfway-weighs (t .bids) (t .offers) (d .0) (d .1))
+      go Quotes d =
+          let bids = sideIn t 0 in
+          let offers = sideIn t 1 in
+          nearest-within (halfway bids offers) (fair-halfway bids offers (s .quotes 0) (s .quotes 1))
+          (halfway-weighs bids offers (d .0) (d .1))
       go Previous d = p
       go Final d = f
 

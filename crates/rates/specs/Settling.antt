@@ -3,6 +3,7 @@ use mathlib.Core.Bool.{Bool}
 use Prim.Native.Nat.{ℕ, _+_, _<_}
 use lib.IntN.{ℤ}
 use Rattle.tallies.specs.Means.{meanOf}
+use Rattle.tallies.specs.Tally.{sideIn}
 use Rattle.tallies.specs.declared.Tally.{Tally}
 use Rattle.rates.specs.Rules.{halfway, nearest, ruleAt}
 use Rattle.rates.specs.declared.Rule.{Rule}
@@ -11,19 +12,19 @@ use Rattle.rates.specs.declared.Settled.{Settled}
 
 module _ (t : Tally) where
   abbrev pub ruleFrom : Bool → Rule
-  ruleFrom ending = ruleAt (t .late) (t .trades) (t .bids .weight) (t .offers .weight) ending
+  ruleFrom ending = ruleAt (t .late) (t .trades) (sideIn t 0 .weight) (sideIn t 1 .weight) ending
 
   abbrev pub usedFrom : Rule → ℕ
   usedFrom LastHour = t .late
   usedFrom LastFive = 5
-  usedFrom Quotes = t .bids .weight + t .offers .weight
+  usedFrom Quotes = sideIn t 0 .weight + sideIn t 1 .weight
   usedFrom Previous = 0
   usedFrom Final = 0
 
   abbrev pub rateFrom : Rule → ℤ → ℤ → ℤ
   rateFrom LastHour previous final = nearest (t .hour)
   rateFrom LastFive previous final = nearest (meanOf (t .latest))
-  rateFrom Quotes previous final = nearest (halfway (t .bids) (t .offers))
+  rateFrom Quotes previous final = nearest (halfway (sideIn t 0) (sideIn t 1))
   rateFrom Previous previous final = previous
   rateFrom Final previous final = final
 
@@ -38,6 +39,6 @@ module _ (t : Tally) where
 abbrev pub Divides : Rule → Tally → Type 0
 Divides LastHour t = 0 < t .hour .weight
 Divides LastFive t = 0 < meanOf (t .latest) .weight
-Divides Quotes t = (0 < t .bids .weight) × (0 < t .offers .weight)
+Divides Quotes t = (0 < sideIn t 0 .weight) × (0 < sideIn t 1 .weight)
 Divides Previous t = Unit {0}
 Divides Final t = Unit {0}

@@ -74,11 +74,12 @@ fn rule_of(t: Tally, ending: bool) -> Rule
     if 5 <= t.trades {
         return Rule::LastFive;
     }
-    let bids = t.bids;
+    let quotes = t.quotes;
+    let bids = quotes[0];
     if bids.weight < 1 {
         return Rule::Previous;
     }
-    let offers = t.offers;
+    let offers = quotes[1];
     if offers.weight < 1 {
         return Rule::Previous;
     }
@@ -93,7 +94,12 @@ fn used_by(rule: Rule, t: Tally) -> u64
     match rule {
         Rule::LastHour => t.late,
         Rule::LastFive => 5,
-        Rule::Quotes => t.bids.weight + t.offers.weight,
+        Rule::Quotes => {
+            let quotes = t.quotes;
+            let bids = quotes[0];
+            let offers = quotes[1];
+            bids.weight + offers.weight
+        }
         Rule::Previous => 0,
         Rule::Final => 0,
     }
@@ -115,8 +121,9 @@ fn rate_by(rule: Rule, t: Tally, previous: i64, final_rate: i64) -> i64
             nearest_to(mean)
         }
         Rule::Quotes => {
-            let bids = t.bids;
-            let offers = t.offers;
+            let quotes = t.quotes;
+            let bids = quotes[0];
+            let offers = quotes[1];
             let half = half_of(bids, offers);
             nearest_to(half)
         }

@@ -8,8 +8,8 @@ use Prim.Native.Nat.{ℕ, _*_, _≤_, _<_}
 use lib.ListN.{length, getD}
 use Rattle.lists.specs.All.{All}
 use Rattle.whole.specs.Within.{Within}
-use Rattle.tallies.specs.Day.{Trade, Quote, inLastHour, bidsOf, offersOf}
-use Rattle.tallies.specs.Tally.{none}
+use Rattle.tallies.specs.Day.{Trade, Quote, inLastHour, counted}
+use Rattle.tallies.specs.Tally.{none, sideIn}
 use Rattle.tallies.specs.declared.Weighted.{Weighted}
 use Rattle.tallies.specs.declared.Mean.{Mean}
 use Rattle.tallies.specs.declared.Tally.{Tally}
@@ -27,8 +27,7 @@ pub record GoodDay (trades : List Trade) (quotes : List Quote) : Type 0 where
   pub each-trade : All GoodTrade trades
   pub each-quote : All GoodQuote quotes
   pub few-trades : length trades ≤ 10000
-  pub few-bids : length (bidsOf quotes) ≤ 10000
-  pub few-offers : length (offersOf quotes) ≤ 10000
+  pub few-quotes : (side : ℕ) → length (counted side quotes) ≤ 10000
 
 -- ---- a tally within them
 -- a rate with its weight
@@ -52,8 +51,8 @@ pub record Sound (t : Tally) : Type 0 where
   pub late : t .late ≤ t .trades
   pub least : t .late ≤ t .hour .weight
   pub hour : Fair (1000 * t .late) (t .hour)
-  pub bids : Fair 10000 (t .bids)
-  pub offers : Fair 10000 (t .offers)
+  pub sides : length (t .quotes) ≡ 2
+  pub quotes : (side : ℕ) → Fair 10000 (sideIn t side)
 
 -- ---- what keeps it so
 -- Refusal 16: "trade or last-hour quote table full".
@@ -64,7 +63,6 @@ pub record TradeFits (t : Tally) (w : Weighted) : Type 0 where
 
 -- A quote outside the last hour needs no room.
 pub record QuoteFits (t : Tally) (time side : ℕ) (w : Weighted) : Type 0 where
-  pub bids : inLastHour time ≡ true → side ≡ 0 → t .bids .weight < 10000
-  pub offers : inLastHour time ≡ true → side ≡ 1 → t .offers .weight < 10000
+  pub room : inLastHour time ≡ true → sideIn t side .weight < 10000
   pub one : w .weight ≡ 1
   pub rate : Within 100000 (w .rate)

@@ -3,12 +3,13 @@
 use mathlib.Core.Bool.{_&&_, cond}
 use mathlib.Core.List.{List, [], _∷_, _++_, map}
 use Prim.Native.Nat.{ℕ, _+_}
-use lib.Dec.{eqb}
+use lib.Dec.{ltb}
 use lib.IntN.{pos}
-use lib.ListN.{length, drop, replicate}
-use Rattle.tallies.specs.Day.{Trade, Quote, inLastHour, lateTrades, bidsOf, offersOf}
+use lib.ListN.{length, getD, set, drop, replicate}
+use Rattle.tallies.specs.Day.{Trade, Quote, inLastHour, lateTrades, counted}
 use Rattle.tallies.specs.Means.{meanOf, meanWith, weighted, byLots, once}
 use Rattle.tallies.specs.declared.Weighted.{Weighted}
+use Rattle.tallies.specs.declared.Mean.{Mean}
 use Rattle.tallies.specs.declared.Tally.{Tally}
 
 -- ---- of lists
@@ -20,18 +21,32 @@ none = weighted 0 (pos 0)
 unfoldable pub latestOf : List Weighted → List Weighted
 latestOf ws = drop (length ws) (replicate 5 none ++ ws)
 
-unfoldable pub tallyFrom : List Trade → List Trade → List Quote → List Quote → Tally
-tallyFrom trades late bids offers = record {
+-- no quote
+abbrev pub unquoted : Mean
+unquoted = record { sum = pos 0; weight = 0 }
+
+-- the mean of a side's counted quotes, and of both sides'
+abbrev pub sideOf : List Quote → ℕ → Mean
+sideOf quotes side = meanOf (map once (counted side quotes))
+
+abbrev pub sidesOf : List Quote → List Mean
+sidesOf quotes = sideOf quotes 0 ∷ sideOf quotes 1 ∷ []
+
+unfoldable pub tallyFrom : List Trade → List Trade → List Mean → Tally
+tallyFrom trades late sides = record {
   trades = length trades;
   latest = latestOf (map byLots trades);
   late = length late;
   hour = meanOf (map byLots late);
-  bids = meanOf (map once bids);
-  offers = meanOf (map once offers);
+  quotes = sides;
 }
 
 abbrev pub tallyOf : List Trade → List Quote → Tally
-tallyOf trades quotes = tallyFrom trades (lateTrades trades) (bidsOf quotes) (offersOf quotes)
+tallyOf trades quotes = tallyFrom trades (lateTrades trades) (sidesOf quotes)
+
+-- what a tally has of a side
+abbrev pub sideIn : Tally → ℕ → Mean
+sideIn t side = getD (t .quotes) side unquoted
 
 -- ---- one more
 abbrev pub shifted : List Weighted → Weighted → List Weighted
@@ -43,8 +58,7 @@ inDay t w = record {
   latest = shifted (t .latest) w;
   late = t .late;
   hour = t .hour;
-  bids = t .bids;
-  offers = t .offers;
+  quotes = t .quotes;
 }
 
 unfoldable pub inHour : Tally → Weighted → Tally
@@ -53,34 +67,21 @@ inHour t w = record {
   latest = t .latest;
   late = t .late + 1;
   hour = meanWith (t .hour) w;
-  bids = t .bids;
-  offers = t .offers;
+  quotes = t .quotes;
 }
 
 abbrev pub withTrade : Tally → ℕ → Weighted → Tally
 withTrade t time w = cond (inLastHour time) (inHour (inDay t w) w) (inDay t w)
 
-unfoldable pub withBid : Tally → Weighted → Tally
-withBid t w = record {
+unfoldable pub inSide : Tally → ℕ → Weighted → Tally
+inSide t side w = record {
   trades = t .trades;
   latest = t .latest;
   late = t .late;
   hour = t .hour;
-  bids = meanWith (t .bids) w;
-  offers = t .offers;
+  quotes = set (t .quotes) side (meanWith (sideIn t side) w);
 }
 
-unfoldable pub withOffer : Tally → Weighted → Tally
-withOffer t w = record {
-  trades = t .trades;
-  latest = t .latest;
-  late = t .late;
-  hour = t .hour;
-  bids = t .bids;
-  offers = meanWith (t .offers) w;
-}
-
--- any other side counts nowhere
+-- there are two sides; any other counts nowhere
 abbrev pub withQuote : Tally → ℕ → ℕ → Weighted → Tally
-withQuote t time side w =
-    cond (inLastHour time && eqb side 0) (withBid t w) (cond (inLastHour time && eqb side 1) (withOffer t w) t)
+withQuote t time side w = cond (inLastHour time && ltb side 2) (inSide t side w) t

@@ -5,18 +5,17 @@ use mathlib.Core.Bool.{Bool, true, false, _&&_, cond, and-eq-true-iff}
 use mathlib.Core.List.{List, [], _∷_, _++_, map, append-assoc, append-nil}
 use Prim.Native.Nat.{ℕ, zero, suc, _+_, _≤_, _<_}
 use native.Mathlib.Omega.{arith}
-use lib.Dec.{eqb}
-use lib.ListN.{length, drop, getD, replicate, length-append, length-drop, drop-of-length-le}
+use lib.Dec.{eqb, ltb}
+use lib.ListN.{length, drop, getD, set, replicate, length-append, length-drop, length-set, drop-of-length-le}
 use lib.Seq.{getD-at, getD-drop, drop-cons, drop-drop, drop-append-le, append-snoc}
-use borrow.Author.Tests.{eqb-true}
+use borrow.Author.Tests.{ne-eqb, le-ltb}
 use Rattle.lists.specs.All.{All, none-left, and-more, all-those}
-use Rattle.lists.specs.Keep.{cond-keeps, more-keeps, replicate-keeps}
+use Rattle.lists.specs.Keep.{cond-keeps, set-keeps, more-keeps, replicate-keeps}
 use Rattle.lists.specs.Rows.{map-append}
 use Rattle.lists.specs.Those.{those, those-more}
-use Rattle.whole.specs.Within.{Within}
-use Rattle.tallies.specs.Day.{Trade, Quote, inLastHour, lateTrades, counted, bidsOf, offersOf}
+use Rattle.tallies.specs.Day.{Trade, Quote, inLastHour, lateTrades, counted}
 use Rattle.tallies.specs.Means.{meanOf, meanWith, byLots, once}
-use Rattle.tallies.specs.Tally.{none, latestOf, tallyFrom, tallyOf, shifted, inDay, inHour, withTrade, withBid, withOffer, withQuote}
+use Rattle.tallies.specs.Tally.{none, latestOf, unquoted, sideOf, sidesOf, tallyFrom, tallyOf, sideIn, shifted, inDay, inHour, withTrade, inSide, withQuote}
 use Rattle.tallies.specs.Bounds.{GoodTrade, GoodQuote, GoodDay, Small, EachSmall, Fair, Sound, TradeFits, QuoteFits}
 use Rattle.tallies.specs.MeanLaws.{mean-more, mean-none, once-weigh, small-none, fair-none, fair-with, fair-of}
 use Rattle.tallies.specs.declared.Weighted.{Weighted}
@@ -41,75 +40,82 @@ latest-more ws w =
     ∙ drop-append-le 1 (drop (length ws) (five ++ ws)) (w ∷ []) some
 
 -- ---- the tally of a list with one more
-module _ (trades late : List Trade) (bids offers : List Quote) where
-  day-more : (t : Trade)
-      → tallyFrom (trades ++ (t ∷ [])) late bids offers ≡ inDay (tallyFrom trades late bids offers) (byLots t)
+module _ (trades late : List Trade) (sides : List Mean) where
+  day-more : (t : Trade) → tallyFrom (trades ++ (t ∷ [])) late sides ≡ inDay (tallyFrom trades late sides) (byLots t)
   unfolding tallyFrom inDay
   day-more t = rw (length-last trades t, map-append byLots trades (t ∷ []), latest-more (map byLots trades) (byLots t))
 
-  hour-more : (t : Trade)
-      → tallyFrom trades (late ++ (t ∷ [])) bids offers ≡ inHour (tallyFrom trades late bids offers) (byLots t)
+  hour-more : (t : Trade) → tallyFrom trades (late ++ (t ∷ [])) sides ≡ inHour (tallyFrom trades late sides) (byLots t)
   unfolding tallyFrom inHour
   hour-more t = rw (length-last late t, map-append byLots late (t ∷ []), mean-more (map byLots late) (byLots t))
-
-  bid-more : (q : Quote)
-      → tallyFrom trades late (bids ++ (q ∷ [])) offers ≡ withBid (tallyFrom trades late bids offers) (once q)
-  unfolding tallyFrom withBid
-  bid-more q = rw (map-append once bids (q ∷ []), mean-more (map once bids) (once q))
-
-  offer-more : (q : Quote)
-      → tallyFrom trades late bids (offers ++ (q ∷ [])) ≡ withOffer (tallyFrom trades late bids offers) (once q)
-  unfolding tallyFrom withOffer
-  offer-more q = rw (map-append once offers (q ∷ []), mean-more (map once offers) (once q))
 
 pub one-trade-more : (trades : List Trade) (quotes : List Quote) (t : Trade)
     → tallyOf (trades ++ (t ∷ [])) quotes ≡ withTrade (tallyOf trades quotes) (t .time) (byLots t)
 one-trade-more trades quotes t =
-    ap (λ l. tallyFrom (trades ++ (t ∷ [])) l bids offers) (those-more (λ u. inLastHour (u .time)) trades t)
+    ap (λ l. tallyFrom (trades ++ (t ∷ [])) l sides) (those-more (λ u. inLastHour (u .time)) trades t)
     ∙ go (inLastHour (t .time))
   where
     late : List Trade
     late = lateTrades trades
 
-    bids : List Quote
-    bids = bidsOf quotes
+    sides : List Mean
+    sides = sidesOf quotes
 
-    offers : List Quote
-    offers = offersOf quotes
+    go : (s : Bool) → tallyFrom (trades ++ (t ∷ [])) (cond s (late ++ (t ∷ [])) late) sides
+        ≡ cond s (inHour (inDay (tallyFrom trades late sides) (byLots t)) (byLots t))
+        (inDay (tallyFrom trades late sides) (byLots t))
+    go true = hour-more (trades ++ (t ∷ [])) late sides t ∙ ap (λ x. inHour x (byLots t)) (day-more trades late sides t)
+    go false = day-more trades late sides t
 
-    go : (s : Bool) → tallyFrom (trades ++ (t ∷ [])) (cond s (late ++ (t ∷ [])) late) bids offers
-        ≡ cond s (inHour (inDay (tallyFrom trades late bids offers) (byLots t)) (byLots t)) (inDay (tallyFrom trades late bids offers) (byLots t))
-    go true = hour-more (trades ++ (t ∷ [])) late bids offers t ∙ ap (λ x. inHour x (byLots t)) (day-more trades late bids offers t)
-    go false = day-more trades late bids offers t
+module _ (quotes : List Quote) (q : Quote) where
+  side-more : (side : ℕ) → sideOf (quotes ++ (q ∷ [])) side
+      ≡ cond (inLastHour (q .time) && eqb (q .side) side) (meanWith (sideOf quotes side) (once q)) (sideOf quotes side)
+  side-more side = ap (λ l. meanOf (map once l)) (those-more counts quotes q) ∙ go (counts q)
+    where
+      counts : Quote → Bool
+      counts u = inLastHour (u .time) && eqb (u .side) side
+
+      these : List Quote
+      these = counted side quotes
+
+      go : (s : Bool) → meanOf (map once (cond s (these ++ (q ∷ [])) these))
+          ≡ cond s (meanWith (meanOf (map once these)) (once q)) (meanOf (map once these))
+      go true = ap meanOf (map-append once these (q ∷ [])) ∙ mean-more (map once these) (once q)
+      go false = refl
+
+  abbrev quoted : ℕ → Mean
+  quoted side = meanWith (sideOf quotes side) (once q)
+
+  -- both sides, of which the quote changes its own
+  sides-more : (h : Bool) (side : ℕ)
+      → cond (h && eqb side 0) (quoted 0) (sideOf quotes 0) ∷ cond (h && eqb side 1) (quoted 1) (sideOf quotes 1) ∷ []
+      ≡ cond (h && ltb side 2) (set (sidesOf quotes) side (meanWith (getD (sidesOf quotes) side unquoted) (once q))) (sidesOf quotes)
+  sides-more false side = refl
+  sides-more true zero = refl
+  sides-more true (suc zero) = refl
+  sides-more true (suc (suc n)) =
+      let side = suc (suc n) in
+      rw (ne-eqb side 0 (λ e. omega arith), ne-eqb side 1 (λ e. omega arith), le-ltb side 2 (omega arith))
 
 pub one-quote-more : (trades : List Trade) (quotes : List Quote) (q : Quote)
     → tallyOf trades (quotes ++ (q ∷ [])) ≡ withQuote (tallyOf trades quotes) (q .time) (q .side) (once q)
+unfolding tallyFrom inSide
 one-quote-more trades quotes q =
-    ap₂ (tallyFrom trades late) (those-more (counts 0) quotes q) (those-more (counts 1) quotes q)
-    ∙ go (inLastHour (q .time)) (eqb (q .side) 0) (eqb (q .side) 1)
-    (λ e f. omega (arith, eqb-true (q .side) 0 e, eqb-true (q .side) 1 f))
+    ap (tallyFrom trades (lateTrades trades))
+    (ap₂ (λ b o. b ∷ o ∷ []) (side-more quotes q 0) (side-more quotes q 1)
+    ∙ sides-more quotes q (inLastHour (q .time)) (q .side))
+    ∙ go (inLastHour (q .time) && ltb (q .side) 2)
   where
-    counts : ℕ → Quote → Bool
-    counts side u = inLastHour (u .time) && eqb (u .side) side
+    t : Tally
+    t = tallyOf trades quotes
 
-    late : List Trade
-    late = lateTrades trades
+    changed : List Mean
+    changed = set (sidesOf quotes) (q .side) (meanWith (sideIn t (q .side)) (once q))
 
-    bids : List Quote
-    bids = bidsOf quotes
-
-    offers : List Quote
-    offers = offersOf quotes
-
-    go : (h s t : Bool) → (s ≡ true → t ≡ true → ⊥)
-        → tallyFrom trades late (cond (h && s) (bids ++ (q ∷ [])) bids) (cond (h && t) (offers ++ (q ∷ [])) offers)
-        ≡ cond (h && s) (withBid (tallyFrom trades late bids offers) (once q))
-        (cond (h && t) (withOffer (tallyFrom trades late bids offers) (once q)) (tallyFrom trades late bids offers))
-    go false s t apart = refl
-    go true true true apart = absurd (apart refl refl)
-    go true true false apart = bid-more trades late bids offers q
-    go true false true apart = offer-more trades late bids offers q
-    go true false false apart = refl
+    go : (s : Bool) → tallyFrom trades (lateTrades trades) (cond s changed (sidesOf quotes))
+        ≡ cond s (inSide t (q .side) (once q)) t
+    go true = refl
+    go false = refl
 
 -- the five, one by one
 pub shifted-is : (ws : List Weighted) (w : Weighted) → length ws ≡ 5
@@ -134,14 +140,11 @@ module _ (t : Tally) (time side : ℕ) (w : Weighted) where
   pub quote-early : inLastHour time ≡ false → withQuote t time side w ≡ t
   quote-early e = rw e
 
-  pub quote-bids : inLastHour time ≡ true → eqb side 0 ≡ true → withQuote t time side w ≡ withBid t w
-  quote-bids e f = rw (e, f)
+  pub quote-counts : inLastHour time ≡ true → ltb side 2 ≡ true → withQuote t time side w ≡ inSide t side w
+  quote-counts e f = rw (e, f)
 
-  pub quote-offers : inLastHour time ≡ true → eqb side 0 ≡ false → eqb side 1 ≡ true → withQuote t time side w ≡ withOffer t w
-  quote-offers e f g = rw (e, f, g)
-
-  pub quote-of-no-side : inLastHour time ≡ true → eqb side 0 ≡ false → eqb side 1 ≡ false → withQuote t time side w ≡ t
-  quote-of-no-side e f g = rw (e, f, g)
+  pub quote-of-no-side : inLastHour time ≡ true → ltb side 2 ≡ false → withQuote t time side w ≡ t
+  quote-of-no-side e f = rw (e, f)
 
 -- "Quotes outside the last hour move the clock and count nowhere" (Refusal numbers).
 pub quote-elsewhere : (trades : List Trade) (quotes : List Quote) (q : Quote) → inLastHour (q .time) ≡ false
@@ -171,8 +174,8 @@ day-keeps t w s f = record {
   late = omega (arith, s .late);
   least = s .least;
   hour = s .hour;
-  bids = s .bids;
-  offers = s .offers;
+  sides = s .sides;
+  quotes = s .quotes;
 }
 
 -- after the day's count went up, the hour's is below it
@@ -186,8 +189,8 @@ hour-keeps t w s room least small = record {
   late = omega arith;
   least = omega (arith, s .least);
   hour = fair-with (t .hour) w (s .hour) (small .rate) (omega (arith, s .hour .weight, small .weight));
-  bids = s .bids;
-  offers = s .offers;
+  sides = s .sides;
+  quotes = s .quotes;
 }
 
 day-room : (t : Tally) (w : Weighted) → Sound t → inDay t w .late < inDay t w .trades
@@ -200,13 +203,9 @@ trade-keeps t time w s f =
     cond-keeps Sound (inLastHour time) (inHour (inDay t w) w) (inDay t w)
     (λ _. hour-keeps (inDay t w) w k (day-room t w s) (f .least) (f .small)) (λ _. k)
 
-one-fits : {W : ℕ} (m : Mean) (w : Weighted) → Fair W m → w .weight ≡ 1 → m .weight < W → Within 100000 (w .rate)
-    → Fair W (meanWith m w)
-one-fits m w f one room r = fair-with m w f r (omega arith)
-
-bid-keeps : (t : Tally) (w : Weighted) → Sound t → Fair 10000 (meanWith (t .bids) w) → Sound (withBid t w)
-unfolding withBid
-bid-keeps t w s f = record {
+side-keeps : (t : Tally) (side : ℕ) (w : Weighted) → Sound t → Fair 10000 (meanWith (sideIn t side) w) → Sound (inSide t side w)
+unfolding inSide
+side-keeps t side w s f = record {
   trades = s .trades;
   five = s .five;
   latest = s .latest;
@@ -214,35 +213,18 @@ bid-keeps t w s f = record {
   late = s .late;
   least = s .least;
   hour = s .hour;
-  bids = f;
-  offers = s .offers;
-}
-
-offer-keeps : (t : Tally) (w : Weighted) → Sound t → Fair 10000 (meanWith (t .offers) w) → Sound (withOffer t w)
-unfolding withOffer
-offer-keeps t w s f = record {
-  trades = s .trades;
-  five = s .five;
-  latest = s .latest;
-  newest = s .newest;
-  late = s .late;
-  least = s .least;
-  hour = s .hour;
-  bids = s .bids;
-  offers = f;
+  sides = length-set (t .quotes) side (meanWith (sideIn t side) w) ∙ s .sides;
+  quotes = λ k. set-keeps (Fair 10000) unquoted (t .quotes) side k (meanWith (sideIn t side) w) f (s .quotes k);
 }
 
 pub quote-keeps : (t : Tally) (time side : ℕ) (w : Weighted) → Sound t → QuoteFits t time side w
     → Sound (withQuote t time side w)
 quote-keeps t time side w s f =
-    cond-keeps Sound (inLastHour time && eqb side 0) (withBid t w) (cond (inLastHour time && eqb side 1) (withOffer t w) t)
-    (λ e. let b = both (eqb side 0) e in bid-keeps t w s (one-fits (t .bids) w (s .bids) (f .one) (f .bids (b .0) (eqb-true side 0 (b .1))) (f .rate)))
-    (λ _. cond-keeps Sound (inLastHour time && eqb side 1) (withOffer t w) t
-    (λ e. let b = both (eqb side 1) e in offer-keeps t w s (one-fits (t .offers) w (s .offers) (f .one) (f .offers (b .0) (eqb-true side 1 (b .1))) (f .rate)))
-    (λ _. s))
+    cond-keeps Sound (inLastHour time && ltb side 2) (inSide t side w) t
+    (λ e. side-keeps t side w s (one-fits (and-eq-true-iff (inLastHour time) (ltb side 2) .0 e .0))) (λ _. s)
   where
-    both : (b : Bool) → inLastHour time && b ≡ true → (inLastHour time ≡ true) × (b ≡ true)
-    both b e = and-eq-true-iff (inLastHour time) b .0 e
+    one-fits : inLastHour time ≡ true → Fair 10000 (meanWith (sideIn t side) w)
+    one-fits late = fair-with (sideIn t side) w (s .quotes side) (f .rate) (omega (arith, f .room late, f .one))
 
 -- ---- a day within the ceilings
 each-once : (quotes : List Quote) → All GoodQuote quotes → EachSmall (map once quotes)
@@ -263,10 +245,10 @@ counted-fair side quotes a few =
     }
 
 -- no trades yet
-untraded-sound : (quotes : List Quote) → All GoodQuote quotes → length (bidsOf quotes) ≤ 10000
-    → length (offersOf quotes) ≤ 10000 → Sound (tallyOf [] quotes)
+untraded-sound : (quotes : List Quote) → All GoodQuote quotes → ((side : ℕ) → length (counted side quotes) ≤ 10000)
+    → Sound (tallyOf [] quotes)
 unfolding tallyFrom latestOf those
-untraded-sound quotes a few-bids few-offers = record {
+untraded-sound quotes a few = record {
   trades = omega arith;
   five = refl;
   latest = record { at = λ i. replicate-keeps Small none 5 none i small-none small-none };
@@ -274,13 +256,18 @@ untraded-sound quotes a few-bids few-offers = record {
   late = omega arith;
   least = omega arith;
   hour = rw mean-none fair-none;
-  bids = counted-fair 0 quotes a few-bids;
-  offers = counted-fair 1 quotes a few-offers;
+  sides = refl;
+  quotes = each-side;
 }
+  where
+    each-side : (side : ℕ) → Fair 10000 (getD (sidesOf quotes) side unquoted)
+    each-side zero = counted-fair 0 quotes a (few 0)
+    each-side (suc zero) = counted-fair 1 quotes a (few 1)
+    each-side (suc (suc n)) = fair-none
 
 pub none-sound : Sound (tallyOf [] [])
 unfolding those
-none-sound = untraded-sound [] none-left (omega arith) (omega arith)
+none-sound = untraded-sound [] none-left (λ side. omega arith)
 
 -- then one trade after the other
 trades-of : (trades : List Trade) (quotes : List Quote) → tallyOf trades quotes .trades ≡ length trades
@@ -305,5 +292,5 @@ sound-after done (t ∷ rest) quotes s (and-more g a) h =
 pub day-sound : {trades : List Trade} {quotes : List Quote} → GoodDay trades quotes → Sound (tallyOf trades quotes)
 day-sound {trades} {quotes} d =
     sound-after [] trades quotes
-    (untraded-sound quotes (d .each-quote) (d .few-bids) (d .few-offers))
+    (untraded-sound quotes (d .each-quote) (d .few-quotes))
     (d .each-trade) (omega (arith, d .few-trades))

@@ -2,12 +2,12 @@
 // settlement need at any time (document 01, 'Settlement rate').
 ghost use mathlib.Core.Path.{_≡_};
 ghost use mathlib.Core.List.{[]};
-ghost use Prim.Native.Nat.{_≤_};
+ghost use Prim.Native.Nat.{_<_, _≤_};
 ghost use lib.ListN.{length};
 ghost use Rattle.whole.specs.Within.{Within};
 ghost use Rattle.tallies.specs.Day.{inLastHour};
 ghost use Rattle.tallies.specs.Means.{meanOf, meanWith, weighted};
-ghost use Rattle.tallies.specs.Tally.{tallyOf, shifted, inDay, inHour, withTrade, withBid, withOffer, withQuote};
+ghost use Rattle.tallies.specs.Tally.{tallyOf, shifted, inDay, inHour, withTrade, inSide, withQuote};
 ghost use Rattle.tallies.specs.Bounds.{Small, EachSmall, Fair, Sound};
 
 // A rate and its weight: the lots of a trade, 1 for a quote.
@@ -23,14 +23,13 @@ pub struct Mean {
 }
 
 // A contract's day: how many trades it has had and the last five of them, the oldest first; how many of the last hour and
-// their mean; the means of the last hour's bids and offers.
+// their mean; the means of the last hour's quotes by side, the bids first.
 pub struct Tally {
     pub trades: u64,
     pub latest: [Weighted; 5],
     pub late: u64,
     pub hour: Mean,
-    pub bids: Mean,
-    pub offers: Mean,
+    pub quotes: [Mean; 2],
 }
 
 // The seconds of the day at which the last hour begins and ends. The one place to change when the window does.
@@ -98,8 +97,7 @@ pub fn empty_tally() -> Tally
         latest: [none; 5],
         late: 0,
         hour: mean,
-        bids: mean,
-        offers: mean,
+        quotes: [mean; 2],
     }
 }
 
@@ -142,44 +140,31 @@ pub fn with_trade(t: Tally, time: u64, lots: u64, rate: i64) -> Tally
     x
 }
 
-// A counted bid.
-fn with_bid(t: Tally, w: Weighted) -> Tally
-    requires { ⌜ Sound t × Small w ⌝ }
-    ensures { λ r. ⌜ r ≡ withBid t w ⌝ }
+// A quote counted on its side.
+fn in_side(t: Tally, side: usize, w: Weighted) -> Tally
+    requires { ⌜ Sound t × ((side < 2) × Small w) ⌝ }
+    ensures { λ r. ⌜ r ≡ inSide t side w ⌝ }
 {
-    let m = t.bids;
-    let bids = mean_with(m, w);
+    let mut quotes = t.quotes;
+    let m = quotes[side];
+    let mean = mean_with(m, w);
+    quotes[side] = mean;
     let mut x = t;
-    x.bids = bids;
+    x.quotes = quotes;
     x
 }
 
-// A counted offer.
-fn with_offer(t: Tally, w: Weighted) -> Tally
-    requires { ⌜ Sound t × Small w ⌝ }
-    ensures { λ r. ⌜ r ≡ withOffer t w ⌝ }
-{
-    let m = t.offers;
-    let offers = mean_with(m, w);
-    let mut x = t;
-    x.offers = offers;
-    x
-}
-
-// One accepted quote more: side 0 is a bid, 1 an offer.
+// One accepted quote more: side 0 is a bid, 1 an offer. Outside the last hour it counts nowhere.
 pub fn with_quote(t: Tally, time: u64, side: u64, rate: i64) -> Tally
     requires { ⌜ Sound t × Within 100000 rate ⌝ }
     ensures { λ r. ⌜ r ≡ withQuote t time side (weighted 1 rate) ⌝ }
 {
-    let w = Weighted { weight: 1, rate };
     if !in_last_hour(time) {
         return t;
     }
-    if side == 0 {
-        return with_bid(t, w);
+    if 2 <= side {
+        return t;
     }
-    if side == 1 {
-        return with_offer(t, w);
-    }
-    t
+    let w = Weighted { weight: 1, rate };
+    in_side(t, side as usize, w)
 }

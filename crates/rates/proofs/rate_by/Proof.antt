@@ -1,6 +1,7 @@
 use mathlib.Core.Path.{_≡_, subst, ap, _∙_}
 use borrow.Author.Needs.{needs}
 use Rattle.whole.specs.Machine.{told, back}
+use Rattle.tallies.specs.Tally.{sideIn}
 use Rattle.rates.specs.Settling.{Divides}
 use Rattle.rates.specs.ExactLaws.{halfway-weighs}
 use Rattle.rates.specs.Rules.{nearest}
@@ -32,15 +33,21 @@ nearest-to-requires-2 c κs =
 enum-told-3 : tie.Need-enum-told-3
 enum-told-3 c = search needs
 
+array-copy-out-bids : tie.Need-array-copy-out-bids
+array-copy-out-bids c = search needs
+
+array-copy-out-offers : tie.Need-array-copy-out-offers
+array-copy-out-offers c = search needs
+
 half-of-requires : tie.Need-half-of-requires
-half-of-requires c κs = search needs
+half-of-requires c κs = let s = c .before .before .before .before .before in (s .pre .0 .quotes 0, s .pre .0 .quotes 1)
 
 nearest-to-requires-3 : tie.Need-nearest-to-requires-3
 nearest-to-requires-3 c κs =
-    let quoted = c .before .before .before in
+    let quoted = c .before .before .before .before in
     let s = quoted .before .before in
     let d = divides s (quoted .enum-told3 .given .1) in
-    rw (c .half-of .ensures) (halfway-weighs (s .args .t .bids) (s .args .t .offers) (d .0) (d .1))
+    rw (c .half-of .ensures) (halfway-weighs (sideIn (s .args .t) 0) (sideIn (s .args .t) 1) (d .0) (d .1))
 
 enum-told-4 : tie.Need-enum-told-4
 enum-told-4 c = search needs
@@ -64,7 +71,7 @@ returns-3 c =
     told (c .nearest-to3 .result) (c .nearest-to3 .ok)
     ∙ c .nearest-to3 .ensures
     ∙ ap nearest (c .before .half-of .ensures)
-    ∙ rw (c .before .before .before .before .enum-told3 .given .1)
+    ∙ rw (c .before .before .before .before .before .enum-told3 .given .1)
 
 returns-4 : tie.Need-returns-4
 returns-4 c = back (c .before .before .fits .previous) ∙ rw (c .enum-told4 .given .1)
@@ -82,6 +89,8 @@ rate-by-spec =
     mean-of-requires
     nearest-to-requires-2
     enum-told-3
+    array-copy-out-bids
+    array-copy-out-offers
     half-of-requires
     nearest-to-requires-3
     enum-told-4

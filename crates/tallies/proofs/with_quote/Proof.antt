@@ -3,12 +3,12 @@ use mathlib.Core.Bool.{true}
 use mir.Syntax.{w64}
 use mir.Val.{toZ, ofZ}
 use borrow.Author.Needs.{needs}
-use borrow.Author.Tests.{not-true, not-false, eq-eqb, ne-eqb}
+use borrow.Author.Tests.{not-true, not-false, lt-ltb, le-ltb}
 use Rattle.whole.specs.Machine.{arg}
-use Rattle.tallies.specs.Means.{weighted}
 use Rattle.tallies.specs.Day.{inLastHour}
-use Rattle.tallies.specs.Tally.{withBid, withOffer}
-use Rattle.tallies.specs.TallyLaws.{quote-early, quote-bids, quote-offers, quote-of-no-side}
+use Rattle.tallies.specs.Means.{weighted}
+use Rattle.tallies.specs.Tally.{inSide}
+use Rattle.tallies.specs.TallyLaws.{quote-early, quote-counts, quote-of-no-side}
 use Rattle.tallies.specs.declared.Weighted.{Weighted}
 use Rattle.tallies.proofs.with_quote.Statement.{statement}
 use Rattle.tallies.proofs.with_quote.Tie as tie
@@ -16,7 +16,7 @@ use Rattle.tallies.proofs.with_quote.Tie as tie
 abbrev quoted : tie.Start → Weighted
 quoted s = weighted 1 (s .args .rate)
 
--- the quote as the callees see it is the quote
+-- the quote as the callee sees it is the quote
 whole : (s : tie.Start) → weighted 1 (toZ w64 (ofZ w64 (s .args .rate))) ≡ quoted s
 whole s = rw (arg (s .pre .1) tt .eq)
 
@@ -32,44 +32,23 @@ returns c =
     sym (quote-early (s .args .t) (s .args .time) (s .args .side) (quoted s)
     (sym (c .before .in-last-hour .ensures) ∙ not-true _ (c .if1 .taken)))
 
-with-bid-requires : tie.Need-with-bid-requires
-with-bid-requires c κs = search needs
-
 returns-2 : tie.Need-returns-2
 returns-2 c =
-    let s = c .before .before .before .before in
-    c .with-bid .ensures
-    ∙ ap (withBid (s .args .t)) (whole s)
-    ∙ sym (quote-bids (s .args .t) (s .args .time) (s .args .side) (quoted s)
-    (late (c .before .before)) (eq-eqb (s .args .side) 0 (c .before .if2 .taken)))
+    let s = c .before .before .before in
+    sym (quote-of-no-side (s .args .t) (s .args .time) (s .args .side) (quoted s) (late (c .before))
+    (le-ltb (s .args .side) 2 (c .if2 .taken)))
 
-with-offer-requires : tie.Need-with-offer-requires
-with-offer-requires c κs = search needs
+in-side-requires : tie.Need-in-side-requires
+in-side-requires c κs = search needs
 
 returns-3 : tie.Need-returns-3
 returns-3 c =
-    let no-bid = c .before .before in
-    let s = no-bid .before .before .before in
-    c .with-offer .ensures
-    ∙ ap (withOffer (s .args .t)) (whole s)
-    ∙ sym (quote-offers (s .args .t) (s .args .time) (s .args .side) (quoted s) (late (no-bid .before))
-    (ne-eqb (s .args .side) 0 (no-bid .if2 .left)) (eq-eqb (s .args .side) 1 (c .before .if3 .taken)))
-
-returns-4 : tie.Need-returns-4
-returns-4 c =
-    let no-bid = c .before in
-    let s = no-bid .before .before .before in
-    sym (quote-of-no-side (s .args .t) (s .args .time) (s .args .side) (quoted s) (late (no-bid .before))
-    (ne-eqb (s .args .side) 0 (no-bid .if2 .left)) (ne-eqb (s .args .side) 1 (c .if3 .left)))
+    let s = c .before .before .before .before in
+    c .in-side .ensures
+    ∙ ap (inSide (s .args .t) (s .args .side)) (whole s)
+    ∙ sym (quote-counts (s .args .t) (s .args .time) (s .args .side) (quoted s) (late (c .before .before))
+    (lt-ltb (s .args .side) 2 (c .before .if2 .left)))
 
 pub with-quote-spec : {M : Type 1} → statement M
 with-quote-spec =
-    tie.close
-    (tie.spec
-    in-last-hour-requires
-    returns
-    with-bid-requires
-    returns-2
-    with-offer-requires
-    returns-3
-    returns-4)
+    tie.close (tie.spec in-last-hour-requires returns returns-2 in-side-requires returns-3)

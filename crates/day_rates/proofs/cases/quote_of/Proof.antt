@@ -1,4 +1,5 @@
--- The test of the rate gives its bound.
+-- The tests of the side and of the rate give their bounds.
+use native.Mathlib.Omega.{arith}
 use borrow.Author.Tests.{not-false}
 use borrow.Author.Needs.{needs}
 use Rattle.day_rates.proofs.cases.quote_of.Statement.{statement}
@@ -44,7 +45,7 @@ returns-4 : tie.Need-returns-4
 returns-4 c = search needs
 
 returns-5 : tie.Need-returns-5
-returns-5 c = c .before .is-rate .ensures (not-false _ (c .if4 .left))
+returns-5 c = (omega arith, c .before .is-rate .ensures (not-false _ (c .if4 .left)))
 
 pub quote-of-spec : {M : Type 1} → statement M
 quote-of-spec =

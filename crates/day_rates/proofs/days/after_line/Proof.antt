@@ -37,7 +37,7 @@ enum-known-case-2 c = search needs
 with-quotes-requires : tie.Need-with-quotes-requires
 with-quotes-requires c κs =
     let told = rw (c .before .case2 .given .1) at (c .before .before .before .read-case .ensures) in
-    (search needs, pass told tt tt)
+    (search needs, told .0, pass (told .1) tt tt)
 
 enum-known-case-3 : tie.Need-enum-known-case-3
 enum-known-case-3 c = search needs

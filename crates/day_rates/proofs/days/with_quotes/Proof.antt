@@ -40,7 +40,7 @@ loop-again c =
     let s = c .before .before .before .before .before in
     rw (c .with-quote .ensures, back (s .fits .rate))
     (quote-keeps (l .more) (s .args .time) (s .args .side) _ (l .inv)
-    (c .before .before .is-full .ensures (c .before .if1 .left) _ (s .pre .1)))
+    (c .before .before .is-full .ensures (c .before .if1 .left) _ (s .pre .2)))
 
 answered-requires-2 : tie.Need-answered-requires-2 Inv-loop μ-loop
 answered-requires-2 c κs = search needs
