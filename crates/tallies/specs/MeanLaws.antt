@@ -13,7 +13,7 @@ use Rattle.whole.specs.Sums.{sumZ, sum-last}
 use Rattle.whole.specs.Within.{Within, lit, widen, within-+, within-*}
 use Rattle.tallies.specs.Day.{Quote}
 use Rattle.tallies.specs.Means.{total, worth, meanOf, meanWith, once}
-use Rattle.tallies.specs.Tally.{none, unquoted}
+use Rattle.tallies.specs.Tally.{none, noRates}
 use Rattle.tallies.specs.Bounds.{Small, EachSmall, Fair}
 use Rattle.tallies.specs.declared.Weighted.{Weighted}
 use Rattle.tallies.specs.declared.Mean.{Mean}
@@ -40,7 +40,7 @@ mean-first w ws =
     rw (+ℤ-comm (worth w) (sumZ (map worth ws)), add-comm (w .weight) (total (map (λ (v : Weighted). v .weight) ws)))
 
 -- where a loop over a list starts, and one turn
-pub mean-none : meanOf [] ≡ unquoted
+pub mean-none : meanOf [] ≡ noRates
 unfolding meanOf total sumZ
 mean-none = refl
 
@@ -78,7 +78,7 @@ each-take n ws small = record { at = go n ws (small .at) }
     go (suc n) (w ∷ ws) s zero = s zero
     go (suc n) (w ∷ ws) s (suc i) = go n ws (λ k. s (suc k)) i
 
-pub fair-none : {W : ℕ} → Fair W unquoted
+pub fair-none : {W : ℕ} → Fair W noRates
 fair-none = record { weight = omega arith; sum = record { size = omega arith } }
 
 pub fair-with : {A B : ℕ} (m : Mean) (w : Weighted) → Fair A m → Within 100000 (w .rate) → m .weight + w .weight ≤ B

@@ -21,9 +21,9 @@ none = weighted 0 (pos 0)
 unfoldable pub latestOf : List Weighted → List Weighted
 latestOf ws = drop (length ws) (replicate 5 none ++ ws)
 
--- no quote
-abbrev pub unquoted : Mean
-unquoted = record { sum = pos 0; weight = 0 }
+-- a mean of no rates
+abbrev pub noRates : Mean
+noRates = record { sum = pos 0; weight = 0 }
 
 -- the mean of a side's counted quotes, and of both sides'
 abbrev pub sideOf : List Quote → ℕ → Mean
@@ -46,7 +46,7 @@ tallyOf trades quotes = tallyFrom trades (lateTrades trades) (sidesOf quotes)
 
 -- what a tally has of a side
 abbrev pub sideIn : Tally → ℕ → Mean
-sideIn t side = getD (t .quotes) side unquoted
+sideIn t side = getD (t .quotes) side noRates
 
 -- ---- one more
 abbrev pub shifted : List Weighted → Weighted → List Weighted

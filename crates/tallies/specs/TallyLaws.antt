@@ -15,7 +15,7 @@ use Rattle.lists.specs.Rows.{map-append}
 use Rattle.lists.specs.Those.{those, those-more}
 use Rattle.tallies.specs.Day.{Trade, Quote, inLastHour, lateTrades, counted}
 use Rattle.tallies.specs.Means.{meanOf, meanWith, byLots, once}
-use Rattle.tallies.specs.Tally.{none, latestOf, unquoted, sideOf, sidesOf, tallyFrom, tallyOf, sideIn, shifted, inDay, inHour, withTrade, inSide, withQuote}
+use Rattle.tallies.specs.Tally.{none, latestOf, noRates, sideOf, sidesOf, tallyFrom, tallyOf, sideIn, shifted, inDay, inHour, withTrade, inSide, withQuote}
 use Rattle.tallies.specs.Bounds.{GoodTrade, GoodQuote, GoodDay, Small, EachSmall, Fair, Sound, TradeFits, QuoteFits}
 use Rattle.tallies.specs.MeanLaws.{mean-more, mean-none, once-weigh, small-none, fair-none, fair-with, fair-of}
 use Rattle.tallies.specs.declared.Weighted.{Weighted}
@@ -89,7 +89,7 @@ module _ (quotes : List Quote) (q : Quote) where
   -- both sides, of which the quote changes its own
   sides-more : (h : Bool) (side : ℕ)
       → cond (h && eqb side 0) (quoted 0) (sideOf quotes 0) ∷ cond (h && eqb side 1) (quoted 1) (sideOf quotes 1) ∷ []
-      ≡ cond (h && ltb side 2) (set (sidesOf quotes) side (meanWith (getD (sidesOf quotes) side unquoted) (once q))) (sidesOf quotes)
+      ≡ cond (h && ltb side 2) (set (sidesOf quotes) side (meanWith (getD (sidesOf quotes) side noRates) (once q))) (sidesOf quotes)
   sides-more false side = refl
   sides-more true zero = refl
   sides-more true (suc zero) = refl
@@ -214,7 +214,7 @@ side-keeps t side w s f = record {
   least = s .least;
   hour = s .hour;
   sides = length-set (t .quotes) side (meanWith (sideIn t side) w) ∙ s .sides;
-  quotes = λ k. set-keeps (Fair 10000) unquoted (t .quotes) side k (meanWith (sideIn t side) w) f (s .quotes k);
+  quotes = λ k. set-keeps (Fair 10000) noRates (t .quotes) side k (meanWith (sideIn t side) w) f (s .quotes k);
 }
 
 pub quote-keeps : (t : Tally) (time side : ℕ) (w : Weighted) → Sound t → QuoteFits t time side w
@@ -260,7 +260,7 @@ untraded-sound quotes a few = record {
   quotes = each-side;
 }
   where
-    each-side : (side : ℕ) → Fair 10000 (getD (sidesOf quotes) side unquoted)
+    each-side : (side : ℕ) → Fair 10000 (getD (sidesOf quotes) side noRates)
     each-side zero = counted-fair 0 quotes a (few 0)
     each-side (suc zero) = counted-fair 1 quotes a (few 1)
     each-side (suc (suc n)) = fair-none
