@@ -1,7 +1,5 @@
 use mathlib.Core.Path.{_≡_, sym, ap, _∙_}
 use mathlib.Core.Bool.{true}
-use mir.Syntax.{w64}
-use mir.Val.{toZ, ofZ}
 use borrow.Author.Needs.{needs}
 use borrow.Author.Tests.{not-true, not-false, lt-ltb, le-ltb}
 use Rattle.whole.specs.Machine.{arg}
@@ -15,10 +13,6 @@ use Rattle.tallies.proofs.with_quote.Tie as tie
 
 abbrev quoted : tie.Start → Weighted
 quoted s = weighted 1 (s .args .rate)
-
--- the quote as the callee sees it is the quote
-whole : (s : tie.Start) → weighted 1 (toZ w64 (ofZ w64 (s .args .rate))) ≡ quoted s
-whole s = rw (arg (s .pre .1) tt .eq)
 
 late : (c : tie.Else1) → inLastHour (c .before .before .args .time) ≡ true
 late c = sym (c .before .in-last-hour .ensures) ∙ not-false _ (c .if1 .left)
@@ -45,7 +39,7 @@ returns-3 : tie.Need-returns-3
 returns-3 c =
     let s = c .before .before .before .before in
     c .in-side .ensures
-    ∙ ap (inSide (s .args .t) (s .args .side)) (whole s)
+    ∙ ap (λ r. inSide (s .args .t) (s .args .side) (weighted 1 r)) (arg (s .pre .1) tt .eq)
     ∙ sym (quote-counts (s .args .t) (s .args .time) (s .args .side) (quoted s) (late (c .before .before))
     (lt-ltb (s .args .side) 2 (c .before .if2 .left)))
 

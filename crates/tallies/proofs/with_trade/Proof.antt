@@ -1,7 +1,5 @@
 use mathlib.Core.Path.{_≡_, sym, ap, ap₂, _∙_}
 use native.Mathlib.Omega.{arith}
-use mir.Syntax.{w64}
-use mir.Val.{toZ, ofZ}
 use borrow.Author.Needs.{needs}
 use Rattle.whole.specs.Machine.{arg, pass}
 use Rattle.tallies.specs.Means.{weighted}
@@ -15,12 +13,10 @@ use Rattle.tallies.proofs.with_trade.Tie as tie
 abbrev traded : tie.Start → Weighted
 traded s = weighted (s .args .lots) (s .args .rate)
 
--- the trade as the callees see it is the trade
-whole : (s : tie.Start) → weighted (s .args .lots) (toZ w64 (ofZ w64 (s .args .rate))) ≡ traded s
-whole s = rw (arg (s .pre .1 .rate) tt .eq)
-
 added : (c : tie.After-in-day) → c .in-day .result ≡ inDay (c .before .args .t) (traded (c .before))
-added c = c .in-day .ensures ∙ ap (inDay (c .before .args .t)) (whole (c .before))
+added c =
+    let s = c .before in
+    c .in-day .ensures ∙ ap (λ r. inDay (s .args .t) (weighted (s .args .lots) r)) (arg (s .pre .1 .rate) tt .eq)
 
 in-day-requires : tie.Need-in-day-requires
 in-day-requires c κs = search needs
@@ -46,7 +42,7 @@ returns c =
     let d = c .before .before .before in
     let s = d .before in
     c .in-hour .ensures
-    ∙ ap₂ inHour (added d) (whole s)
+    ∙ ap₂ (λ t r. inHour t (weighted (s .args .lots) r)) (added d) (arg (s .pre .1 .rate) tt .eq)
     ∙ sym (trade-late (s .args .t) (s .args .time) (traded s)
     (sym (c .before .before .in-last-hour .ensures) ∙ c .before .if1 .taken))
 
