@@ -12,7 +12,7 @@ fn print_lists(input: &[u8]) {
     let mut at: usize = 0;
     let mut k: u64 = 1;
     while at < input.len() {
-        let end = reading::line_end(input, at);
+        let end = scan::line_end(input, at);
         let mut days = [0u64; 400];
         let Days::Kept(count) = reading::read_days(&input[at..end], &mut days) else {
             printing::print_bad_input();

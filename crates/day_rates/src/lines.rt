@@ -1,6 +1,9 @@
-// Lines: where a line of the input ends, and what numbers stand in it.
+// Lines: the numbers that stand in a line.
 ghost use Prim.Native.Nat.{_≤_};
 ghost use lib.ListN.{length};
+use scan::Number;
+use scan::digits_end;
+use scan::number_in;
 
 // The numbers of a line: how many there are, and their values, with zeros after them. A text that is something else
 // than numbers has `NO_NUMBERS` of them.
@@ -15,46 +18,6 @@ const NO_NUMBERS: usize = 5;
 
 // A size past this counts as this. It is out of every range.
 const LARGEST: u64 = 1000000;
-
-// The place of the first line feed from a place on, or the end.
-pub(crate) fn line_end(text: &[u8], from: usize) -> usize
-    requires { ⌜ from ≤ length (now text) ⌝ }
-    ensures { λ r. ⌜ (from ≤ r) × (r ≤ length (now (text .entry))) ⌝ }
-{
-    let mut at = from;
-    while at < text.len() {
-        if text[at] == b'\n' {
-            return at;
-        }
-        at += 1;
-    }
-    at
-}
-
-// The value of a decimal digit, or 10 if the byte is none.
-fn digit_value(byte: u8) -> u64
-    ensures { λ r. ⌜ r ≤ 10 ⌝ }
-{
-    match byte {
-        b'0'..=b'9' => (byte - b'0') as u64,
-        _ => 10,
-    }
-}
-
-// The place of the first byte from a place on that is no decimal digit.
-fn digits_end(text: &[u8], from: usize) -> usize
-    requires { ⌜ from ≤ length (now text) ⌝ }
-    ensures { λ r. ⌜ (from ≤ r) × (r ≤ length (now (text .entry))) ⌝ }
-{
-    let mut at = from;
-    while at < text.len() {
-        if 9 < digit_value(text[at]) {
-            return at;
-        }
-        at += 1;
-    }
-    at
-}
 
 // The place after a minus sign, or the place itself where there is none.
 fn sign_end(text: &[u8], from: usize) -> usize
@@ -73,20 +36,14 @@ fn sign_end(text: &[u8], from: usize) -> usize
 fn size_in(digits: &[u8]) -> u64
     ensures { λ r. ⌜ r ≤ 1000000 ⌝ }
 {
-    let mut size: u64 = 0;
-    let mut i: usize = 0;
-    while i < digits.len() {
-        size = size * 10 + digit_value(digits[i]);
-        if LARGEST < size {
-            return LARGEST;
-        }
-        i += 1;
-    }
-    size
+    let Number::Of(size) = number_in(digits) else {
+        return LARGEST;
+    };
+    if size < LARGEST { size } else { LARGEST }
 }
 
 // The number that digits stand for, with a sign before them or none.
-fn number_in(text: &[u8]) -> i64 {
+fn signed_in(text: &[u8]) -> i64 {
     let first = sign_end(text, 0);
     let size = size_in(&text[first..]) as i64;
     if 0 < first { 0 - size } else { size }
@@ -117,7 +74,7 @@ pub(crate) fn read_numbers(text: &[u8]) -> Numbers {
         if count == MOST_NUMBERS {
             return no_numbers();
         }
-        let number = number_in(&text[at + 1..end]);
+        let number = signed_in(&text[at + 1..end]);
         values[count] = number;
         count += 1;
         at = end;

@@ -54,7 +54,7 @@ fn answer_lines(input: &[u8]) {
     let mut day = tallies::empty_tally();
     let mut at: usize = 0;
     while at < input.len() {
-        let end = lines::line_end(input, at);
+        let end = scan::line_end(input, at);
         let outcome = days::after_line(day, &input[at..end]);
         let answer = outcome.answer;
         if !print_answer(answer) {

@@ -1,32 +1,9 @@
-// Lines: where a line of the input ends, and what its digits stand for.
+// Lines: the bytes that hex digits stand for, and the numbers of a line.
 ghost use Prim.Native.Nat.{_≤_};
 ghost use lib.ListN.{length};
-
-// A number, or that the digits stand for none of 64 bits.
-pub(crate) enum Number {
-    Of(u64),
-    TooLarge,
-}
-
-// The largest number of 64 bits, and its tenth.
-const LARGEST: u64 = 18446744073709551615;
-
-const TENTH: u64 = 1844674407370955161;
-
-// The place of the first line feed from a place on, or the end.
-pub(crate) fn line_end(text: &[u8], from: usize) -> usize
-    requires { ⌜ from ≤ length (now text) ⌝ }
-    ensures { λ r. ⌜ (from ≤ r) × (r ≤ length (now (text .entry))) ⌝ }
-{
-    let mut at = from;
-    while at < text.len() {
-        if text[at] == b'\n' {
-            return at;
-        }
-        at += 1;
-    }
-    at
-}
+use scan::Number;
+use scan::digits_end;
+use scan::number_in;
 
 // The value of a hex digit, or 16 if the byte is none.
 fn hex_value(byte: u8) -> u8
@@ -58,50 +35,6 @@ pub(crate) fn read_hex(digits: &[u8], bytes: &mut [u8; 8192]) -> bool
         i += 1;
     }
     true
-}
-
-// The value of a decimal digit, or 10 if the byte is none.
-fn digit_value(byte: u8) -> u64
-    ensures { λ r. ⌜ r ≤ 10 ⌝ }
-{
-    match byte {
-        b'0'..=b'9' => (byte - b'0') as u64,
-        _ => 10,
-    }
-}
-
-// The place of the first byte from a place on that is no decimal digit.
-fn digits_end(text: &[u8], from: usize) -> usize
-    requires { ⌜ from ≤ length (now text) ⌝ }
-    ensures { λ r. ⌜ (from ≤ r) × (r ≤ length (now (text .entry))) ⌝ }
-{
-    let mut at = from;
-    while at < text.len() {
-        if 9 < digit_value(text[at]) {
-            return at;
-        }
-        at += 1;
-    }
-    at
-}
-
-// The number that decimal digits stand for.
-fn number_in(digits: &[u8]) -> Number {
-    let mut number: u64 = 0;
-    let mut i: usize = 0;
-    while i < digits.len() {
-        if TENTH < number {
-            return Number::TooLarge;
-        }
-        let shifted = number * 10;
-        let digit = digit_value(digits[i]);
-        if LARGEST - shifted < digit {
-            return Number::TooLarge;
-        }
-        number = shifted + digit;
-        i += 1;
-    }
-    Number::Of(number)
 }
 
 // Reads numbers, each after one space, and answers how many there are, or 0 if the text is something else.

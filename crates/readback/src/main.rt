@@ -27,7 +27,7 @@ fn answer_lines(input: &[u8]) {
     let mut place: usize = 0;
     let mut at: usize = 0;
     while at < input.len() {
-        let end = lines::line_end(input, at);
+        let end = scan::line_end(input, at);
         let Place::After(next) = put_answer(&mut text, place, &input[at..end]) else {
             text::end_badly(&mut text, place);
             return;

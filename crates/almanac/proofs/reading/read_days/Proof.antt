@@ -29,11 +29,20 @@ part-number-in-end c = search needs
 number-in-requires : tie.Need-number-in-requires Inv-loop μ-loop
 number-in-requires c κs = search needs
 
+enum-known-day : tie.Need-enum-known-day Inv-loop μ-loop
+enum-known-day c = search needs
+
+enum-told : tie.Need-enum-told Inv-loop μ-loop
+enum-told c = search needs
+
 returns : tie.Need-returns Inv-loop μ-loop
 returns c = search needs
 
 returns-2 : tie.Need-returns-2 Inv-loop μ-loop
 returns-2 c = search needs
+
+returns-3 : tie.Need-returns-3 Inv-loop μ-loop
+returns-3 c = search needs
 
 mul-days : tie.Need-mul-days Inv-loop μ-loop
 mul-days c = search needs
@@ -53,8 +62,8 @@ loop-again c = search needs
 shared-slice-read-if4 : tie.Need-shared-slice-read-if4 Inv-loop μ-loop
 shared-slice-read-if4 c = search needs
 
-returns-3 : tie.Need-returns-3 Inv-loop μ-loop
-returns-3 c = search needs
+returns-4 : tie.Need-returns-4 Inv-loop μ-loop
+returns-4 c = search needs
 
 add-at : tie.Need-add-at Inv-loop μ-loop
 add-at c = search needs
@@ -65,8 +74,8 @@ loop-less-2 c = search needs
 loop-again-2 : tie.Need-loop-again-2 Inv-loop μ-loop
 loop-again-2 c = search needs
 
-returns-4 : tie.Need-returns-4 Inv-loop μ-loop
-returns-4 c = search needs
+returns-5 : tie.Need-returns-5 Inv-loop μ-loop
+returns-5 c = search needs
 
 pub read-days-spec : {M : Type 1} → statement M
 read-days-spec =
@@ -80,16 +89,19 @@ read-days-spec =
     part-number-in-start
     part-number-in-end
     number-in-requires
+    enum-known-day
+    enum-told
     returns
     returns-2
+    returns-3
     mul-days
     element-write-days
     add-count
     loop-less
     loop-again
     shared-slice-read-if4
-    returns-3
+    returns-4
     add-at
     loop-less-2
     loop-again-2
-    returns-4)
+    returns-5)

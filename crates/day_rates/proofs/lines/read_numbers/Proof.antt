@@ -44,20 +44,20 @@ no-numbers-requires-3 c κs = search needs
 returns-3 : tie.Need-returns-3 Inv-loop μ-loop
 returns-3 c = search needs
 
-add-number-in : tie.Need-add-number-in Inv-loop μ-loop
-add-number-in c = search needs
+add-signed-in : tie.Need-add-signed-in Inv-loop μ-loop
+add-signed-in c = search needs
 
-sub-number-in : tie.Need-sub-number-in Inv-loop μ-loop
-sub-number-in c = search needs
+sub-signed-in : tie.Need-sub-signed-in Inv-loop μ-loop
+sub-signed-in c = search needs
 
-part-number-in-start : tie.Need-part-number-in-start Inv-loop μ-loop
-part-number-in-start c = search needs
+part-signed-in-start : tie.Need-part-signed-in-start Inv-loop μ-loop
+part-signed-in-start c = search needs
 
-part-number-in-end : tie.Need-part-number-in-end Inv-loop μ-loop
-part-number-in-end c = search needs
+part-signed-in-end : tie.Need-part-signed-in-end Inv-loop μ-loop
+part-signed-in-end c = search needs
 
-number-in-requires : tie.Need-number-in-requires Inv-loop μ-loop
-number-in-requires c κs = search needs
+signed-in-requires : tie.Need-signed-in-requires Inv-loop μ-loop
+signed-in-requires c κs = search needs
 
 mul-values : tie.Need-mul-values Inv-loop μ-loop
 mul-values c = search needs
@@ -94,11 +94,11 @@ read-numbers-spec =
     returns-2
     no-numbers-requires-3
     returns-3
-    add-number-in
-    sub-number-in
-    part-number-in-start
-    part-number-in-end
-    number-in-requires
+    add-signed-in
+    sub-signed-in
+    part-signed-in-start
+    part-signed-in-end
+    signed-in-requires
     mul-values
     array-set-from-values
     add-count

@@ -3,8 +3,8 @@ use lib.IntN.{pos}
 use borrow.Author.Needs.{needs}
 use Rattle.whole.specs.Within.{lit}
 use Rattle.whole.specs.Machine.{now, unsigned, sub, fits}
-use Rattle.day_rates.proofs.lines.number_in.Statement.{statement}
-use Rattle.day_rates.proofs.lines.number_in.Tie as tie
+use Rattle.day_rates.proofs.lines.signed_in.Statement.{statement}
+use Rattle.day_rates.proofs.lines.signed_in.Tie as tie
 
 sign-end-requires : tie.Need-sign-end-requires
 sign-end-requires c κs = search needs
@@ -33,8 +33,8 @@ returns c = search needs
 returns-2 : tie.Need-returns-2
 returns-2 c = search needs
 
-pub number-in-spec : {M : Type 1} → statement M
-number-in-spec =
+pub signed-in-spec : {M : Type 1} → statement M
+signed-in-spec =
     tie.close
     (tie.spec
     sign-end-requires

@@ -1,0 +1,67 @@
+-- The answer is the same from each place that the loop has reached.
+use mathlib.Core.Path.{_≡_, refl, sym, _∙_}
+use Prim.Native.Nat.{_-_, _≤_, max}
+use native.Mathlib.Omega.{arith}
+use lib.ListN.{length}
+use borrow.Author.Tests.{eq-eqb, ne-eqb}
+use borrow.Author.Needs.{needs}
+use Rattle.scan.specs.Text.{isFeed, lineEnd}
+use Rattle.scan.specs.TextLaws.{first-here, first-further, first-end}
+use Rattle.scan.proofs.line_end.Statement.{statement}
+use Rattle.scan.proofs.line_end.Tie as tie
+
+abbrev Inv-loop : tie.InvT-loop
+Inv-loop text from at₀ at = (lineEnd text from ≡ lineEnd text at) × (from ≤ at) × (at ≤ max from (length text))
+
+abbrev μ-loop : tie.MeasureT-loop
+μ-loop text from at₀ at = length text - at
+
+loop-holds : tie.Need-loop-holds Inv-loop μ-loop
+loop-holds c = (refl, omega arith, omega arith)
+
+shared-slice-read-if1 : tie.Need-shared-slice-read-if1 Inv-loop μ-loop
+shared-slice-read-if1 c = search needs
+
+returns : tie.Need-returns Inv-loop μ-loop
+returns c =
+    let l = c .before .before .before .loop in
+    let text = c .before .before .before .before .args .text .now in (
+      sym (l .inv .0 ∙ first-here isFeed text (l .at) (c .before .before .loop-test .taken) (eq-eqb _ 10 (c .if1 .taken))),
+      l .inv .1,
+      l .inv .2,
+    )
+
+add-at : tie.Need-add-at Inv-loop μ-loop
+add-at c = search needs
+
+loop-less : tie.Need-loop-less Inv-loop μ-loop
+loop-less c = search needs
+
+loop-again : tie.Need-loop-again Inv-loop μ-loop
+loop-again c =
+    let l = c .before .before .before .loop in
+    let text = c .before .before .before .before .args .text .now in (
+      l .inv .0 ∙ first-further isFeed text (l .at) (c .before .before .loop-test .taken) (ne-eqb _ 10 (c .if1 .left)),
+      omega arith,
+      omega arith,
+    )
+
+returns-2 : tie.Need-returns-2 Inv-loop μ-loop
+returns-2 c =
+    let l = c .before .loop in
+    let text = c .before .before .args .text .now in
+    (sym (l .inv .0 ∙ first-end isFeed text (l .at) (c .loop-test .left)), l .inv .1, l .inv .2)
+
+pub line-end-spec : {M : Type 1} → statement M
+line-end-spec =
+    tie.close
+    (tie.spec
+    Inv-loop
+    μ-loop
+    loop-holds
+    shared-slice-read-if1
+    returns
+    add-at
+    loop-less
+    loop-again
+    returns-2)
