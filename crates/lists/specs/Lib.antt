@@ -8,3 +8,4 @@ pub mod Rows
 pub mod Tabulate
 pub mod Those
 pub mod All
+pub mod Zipped

@@ -19,6 +19,11 @@ drop-map f zero xs = refl
 drop-map f (suc n) [] = refl
 drop-map f (suc n) (x ∷ xs) = drop-map f n xs
 
+pub map-set : {X Y : Type 0} (f : X → Y) (xs : List X) (i : ℕ) (x : X) → map f (set xs i x) ≡ set (map f xs) i (f x)
+map-set f [] i x = refl
+map-set f (y ∷ xs) zero x = refl
+map-set f (y ∷ xs) (suc i) x = ap (λ l. f y ∷ l) (map-set f xs i x)
+
 module _ {X : Type 0} (f : X → X) (l : List X) (i : ℕ) (d : X) (h : i < length l) where
   mapped-long : length (map f (take i l)) ≡ i
   mapped-long = length-map (take i l) f ∙ length-take-le i l (omega arith)

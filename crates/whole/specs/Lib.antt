@@ -6,6 +6,8 @@ pub mod Within
 pub mod Machine
 pub mod Tests
 pub mod Sums
+pub mod Sizes
 pub mod Larger
+pub mod Amounts
 pub mod Round
 pub mod RoundLaws
