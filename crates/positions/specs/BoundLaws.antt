@@ -14,7 +14,7 @@ use Rattle.lists.specs.Rows.{map-set}
 use Rattle.lists.specs.Zipped.{zipped, zipped-length, zipped-keeps}
 use Rattle.whole.specs.Parts.{parts₄, ring, zarith}
 use Rattle.whole.specs.Expand.{expand}
-use Rattle.whole.specs.Within.{Within, Each, within-+, within--, within-*, wider, lit}
+use Rattle.whole.specs.Within.{Within, Each, within-+, within--, within-*, widen, wider, lit}
 use Rattle.whole.specs.Sums.{sumZ}
 use Rattle.whole.specs.Sizes.{sizes, sum-sizes, sizes-at, sizes-set}
 use Rattle.whole.specs.Amounts.{Amount, amount-pos, amount-+, amount-widen}
@@ -100,6 +100,9 @@ none-kept = record {
   befores = λ i. replicate-keeps (λ p. Within 20000 (p .before)) flat 6 flat i zero-within zero-within;
   costs = omega arith;
 }
+
+pub nets-wider : {few many : ℕ} {ps : List Position} → Nets few ps → few ≤ many → Nets many ps
+nets-wider n h = record { six = n .six; at = λ i. widen (n .at i) h }
 
 pub kept-wider : {few many : ℕ} {ps : List Position} → Kept few ps → few ≤ many → Kept many ps
 kept-wider {few} {many} k h = record { nets = k .nets; befores = k .befores; costs = omega (arith, k .costs) }

@@ -5,3 +5,6 @@ pub mod Carried
 pub mod Rows
 pub mod Bounds
 pub mod BoundLaws
+pub mod DealLaws
+pub mod VariationLaws
+pub mod TotalLaws

@@ -1,7 +1,7 @@
 -- Amounts: numbers from 0 to a bound. `Amount B z` is 0 ≤ z ≤ B, a record so that B and z are found from a hypothesis.
 use Prim.Native.Nat.{ℕ, _+_, _≤_}
-use lib.IntN.{ℤ, pos, _+ℤ_}
-use lib.Signed.{_≤ℤ_}
+use lib.IntN.{ℤ, pos, negsuc, _+ℤ_}
+use lib.Signed.{_≤ℤ_, _<ℤ_, clashℤ}
 use Rattle.whole.specs.Parts.{parts₂, ring, zarith}
 use Rattle.whole.specs.Order.{pos-nonneg, ≤ℤ-trans}
 use Rattle.whole.specs.Within.{Within, within-pos}
@@ -13,6 +13,13 @@ pub record Amount (B : ℕ) (z : ℤ) : Type 0 where
 
 pub amount-within : {B : ℕ} {z : ℤ} → Amount B z → Within B z
 amount-within a = within-pos (a .least) (a .most)
+
+pub amount-ind : (P : ℤ → Type 0) {B : ℕ} (z : ℤ) → Amount B z → ((n : ℕ) → n ≤ B → P (pos n)) → P z
+amount-ind P {B} (pos n) a f = f n (amount-within a .size)
+amount-ind P (negsuc n) a f = absurd (clashℤ (below n) (a .least))
+  where
+    below : (n : ℕ) → negsuc n <ℤ pos 0
+    below n = simp ring (omega zarith)
 
 pub amount-pos : {B : ℕ} (n : ℕ) → n ≤ B → Amount B (pos n)
 amount-pos {B} n h = record { least = pos-nonneg n; most = le n h }

@@ -5,7 +5,7 @@ use mathlib.Core.Bool.{Bool, true, false, not}
 use Prim.Native.Nat.{ℕ, _*_, zero-le}
 use native.Mathlib.Nat.{mul-le-mul-left}
 use lib.Dec.{T, le→leb}
-use lib.IntN.{ℤ, pos, negsuc, negℤ, _+ℤ_, _*ℤ_}
+use lib.IntN.{ℤ, pos, negsuc, negℤ, _+ℤ_, _-ℤ_, _*ℤ_}
 use lib.Signed.{_≤ℤ_, _<ℤ_, ltZ, leZ-yes, ltZ-yes, ltZ-no}
 use Rattle.whole.specs.Parts.{Parts, _⊖_, ⊖-le, parts₂, parts₃, ring, zarith}
 
@@ -35,6 +35,10 @@ pub +ℤ-mono : {a b c d : ℤ} → a ≤ℤ b → c ≤ℤ d → (a +ℤ c) ≤
 
 pub negℤ-mono : {a b : ℤ} → a ≤ℤ b → negℤ b ≤ℤ negℤ a
 negℤ-mono {a} {b} = parts₂ a b (λ x y. simp (x .is, y .is, ring) (omega zarith))
+
+-- what is left of a number after a smaller one is taken
+pub rest-nonneg : (x y : ℤ) → y ≤ℤ x → pos 0 ≤ℤ (x -ℤ y)
+rest-nonneg x y = parts₂ x y (λ a b. simp (a .is, b .is, ring) (omega zarith))
 
 -- omega is handed the law of the naturals for the product
 *ℤ-mono-pos : (a b : ℤ) (k : ℕ) → a ≤ℤ b → (a *ℤ pos k) ≤ℤ (b *ℤ pos k)

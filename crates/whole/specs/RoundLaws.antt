@@ -14,7 +14,7 @@ use lib.Dec.{T, ltb, ltb→lt, nltb→le}
 use lib.IntN.{ℤ, pos, negsuc, negℤ, natAbs, _+ℤ_, _-ℤ_, _*ℤ_, +ℤ-invr, negℤ-negℤ, *ℤ-comm}
 use lib.Signed.{_≤ℤ_, _<ℤ_}
 use Rattle.whole.specs.Parts.{Parts, _⊖_, ⊖-lt, negsuc-⊖, parts₃, ring, zarith}
-use Rattle.whole.specs.Order.{≤ℤ-antisym, ≤ℤ-total}
+use Rattle.whole.specs.Order.{≤ℤ-antisym, ≤ℤ-total, pos-nonneg}
 use Rattle.whole.specs.Within.{Within, natAbs-neg-pos, natAbs-*}
 use Rattle.whole.specs.Round.{onTie, nearestSize, sizeRoundedBy, withSign, roundedBy, rounded, hundredthUp}
 
@@ -250,6 +250,11 @@ unfolding nearestSize withSign
 example-7 = refl
 
 -- ---- the hundredth, rounded up
+pub hundredth-nonneg : (x : ℤ) → pos 0 ≤ℤ x → pos 0 ≤ℤ hundredthUp x
+unfolding hundredthUp
+hundredth-nonneg (pos n) h = pos-nonneg ((n + 99) / 100)
+hundredth-nonneg (negsuc n) h = absurd (h .le)
+
 pub hundredth-bounds : (x : ℤ) → (x ≤ℤ (pos 100 *ℤ hundredthUp x)) × ((pos 100 *ℤ hundredthUp x) <ℤ (x +ℤ pos 100))
 unfolding hundredthUp
 hundredth-bounds (pos n) = simp ring (omega zarith)

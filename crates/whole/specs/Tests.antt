@@ -1,5 +1,6 @@
 -- What the code's tests and casts at i64 tell, and the tests that a contract cites.
 use mathlib.Core.Path.{_≡_, refl, sym, _∙_, ap, ap₂, subst}
+use mathlib.Core.Logic.{_⊎_, inl, inr}
 use mathlib.Core.Bool.{Bool, true, false, not}
 use Prim.Native.Nat.{ℕ, _^_, _<_}
 use borrow.Author.Tests.{eq-eqb, eqb-true, eqb-false}
@@ -10,6 +11,7 @@ use mir.Syntax.{w64}
 use mir.Val.{Fits, SFits, toZ, ofZ}
 use mir.Facts.{toZ-pos, fits-natAbs}
 use Rattle.whole.specs.Parts.{parts₁, ring, zarith}
+use Rattle.whole.specs.Order.{≤ℤ-total}
 use Rattle.whole.specs.Machine.{back}
 
 is-T : {t : Bool} → t ≡ true → T t
@@ -39,6 +41,13 @@ module _ {e f x y : ℤ} (p : e ≡ x) (q : f ≡ y) where
 
   pub le-yes : leZ e f ≡ true → x ≤ℤ y
   le-yes t = leZ-yes (is-T (sym (ap₂ leZ p q) ∙ t))
+
+  pub le-no : leZ e f ≡ false → y <ℤ x
+  le-no t = go (≤ℤ-total y x)
+    where
+      go : (y <ℤ x) ⊎ (x ≤ℤ y) → y <ℤ x
+      go (inl h) = h
+      go (inr h) = absurd (subst T (sym (ap₂ leZ p q) ∙ t) (h .le))
 
 -- the test's flag at the numbers, for a contract that cites the test
 module _ {e f x y : ℤ} {t : Bool} (p : e ≡ x) (q : f ≡ y) where

@@ -64,6 +64,9 @@ within-pos {B} {z} h k = record { size = go z h k }
     go : (z : ℤ) → pos 0 ≤ℤ z → z ≤ℤ pos B → natAbs z ≤ B
     go z = parts₁ z (λ x. simp (x .is, ring) (omega zarith))
 
+pub within-most : {B : ℕ} (z : ℤ) → Within B z → z ≤ℤ pos B
+within-most z h = parts₁ z (λ x. simp (x .is, ring) (omega zarith))
+
 -- ---- a wider bound: by a fact, or by a test that computes, `wider h tt`
 pub widen : {A B : ℕ} {x : ℤ} → Within A x → A ≤ B → Within B x
 widen h k = record { size = le-trans (h .size) k }

@@ -1,0 +1,5 @@
+pub mod Accounts
+pub mod Bounds
+pub mod BoundLaws
+pub mod CloseLaws
+pub mod Examples

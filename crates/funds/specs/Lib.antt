@@ -1,0 +1,4 @@
+pub mod Funds
+pub mod Bounds
+pub mod FundsLaws
+pub mod BoundLaws

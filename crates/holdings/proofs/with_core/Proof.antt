@@ -1,0 +1,11 @@
+use Rattle.whole.specs.Machine.{back}
+use Rattle.holdings.specs.DayEnd.{withCore}
+use Rattle.holdings.proofs.with_core.Statement.{statement}
+use Rattle.holdings.proofs.with_core.Tie as tie
+
+returns : tie.Need-returns
+unfolding withCore
+returns c = rw (back (c .fits .core))
+
+pub with-core-spec : {M : Type 1} → statement M
+with-core-spec = tie.close (tie.spec returns)

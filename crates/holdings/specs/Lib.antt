@@ -1,0 +1,6 @@
+pub mod Holdings
+pub mod Limits
+pub mod DayEnd
+pub mod Bounds
+pub mod BoundLaws
+pub mod LimitLaws
