@@ -18,10 +18,10 @@ use Rattle.whole.specs.Within.{Within, Each, within-+, within--, within-*, wide
 use Rattle.whole.specs.Sums.{sumZ}
 use Rattle.whole.specs.Sizes.{sizes, sum-sizes, sizes-at, sizes-set}
 use Rattle.whole.specs.Amounts.{Amount, amount-pos, amount-+, amount-widen}
-use Rattle.positions.specs.Deals.{flat, dealt, withDeal}
+use Rattle.positions.specs.Deals.{overnight, flat, dealt, withDeal}
 use Rattle.positions.specs.Totals.{asked, total, isBeyond}
 use Rattle.positions.specs.Variation.{variationAt, variation}
-use Rattle.positions.specs.Carried.{overnight, carried, allCarried}
+use Rattle.positions.specs.Carried.{carried, allCarried}
 use Rattle.positions.specs.Bounds.{Margins, Priced, noMark, PricedAll, Nets, costs, Kept, Modest, dayMost}
 use Rattle.positions.specs.declared.Position.{Position}
 use Rattle.positions.specs.declared.Mark.{Mark}
@@ -119,15 +119,15 @@ carried-kept {trades} {ps} {marks} k r = record {
   costs = omega (arith, untouched ps marks);
 }
   where
-    each : (f : Position → ℤ) → Within 20000 (f flat) → ((p : Position) → Within 20000 (p .net) → Within 20000 (f (overnight p)))
+    each : (f : Position → ℤ) → Within 20000 (f flat) → ((p : Position) → Within 20000 (p .net) → Within 20000 (f (overnight (p .net))))
         → (i : ℕ) → Within 20000 (f (getD (zipped carried ps marks) i flat))
     each f z h = zipped-keeps carried (λ p. Within 20000 (f p)) flat flat noMark ps marks z
-        (λ i. cond-keeps (λ p. Within 20000 (f p)) (getD marks i noMark .ending) flat (overnight (getD ps i flat)) (λ e. z) (λ e. h (getD ps i flat) (k .nets .at i)))
+        (λ i. cond-keeps (λ p. Within 20000 (f p)) (getD marks i noMark .ending) flat (overnight (getD ps i flat .net)) (λ e. z) (λ e. h (getD ps i flat) (k .nets .at i)))
 
     untouched : (ps : List Position) (marks : List Mark) → costs (zipped carried ps marks) ≡ 0
     untouched [] marks = refl
     untouched (p ∷ ps) [] = refl
-    untouched (p ∷ ps) (m ∷ marks) = omega (arith, cond-keeps (λ q. natAbs (q .cost) ≡ 0) (m .ending) flat (overnight p) (λ e. refl) (λ e. refl), untouched ps marks)
+    untouched (p ∷ ps) (m ∷ marks) = omega (arith, cond-keeps (λ q. natAbs (q .cost) ≡ 0) (m .ending) flat (overnight (p .net)) (λ e. refl) (λ e. refl), untouched ps marks)
 
 -- ---- a trade
 module _ {trades : ℕ} {ps : List Position} {lots rate : ℤ} (k : Kept trades ps) (row : ℕ) (l : Within 1000 lots) (r : Within 100000 rate) where

@@ -1,19 +1,14 @@
 -- What a close leaves of positions.
 use mathlib.Core.Bool.{cond}
 use mathlib.Core.List.{List}
-use lib.IntN.{pos}
 use Rattle.lists.specs.Zipped.{zipped}
-use Rattle.positions.specs.Deals.{flat}
+use Rattle.positions.specs.Deals.{overnight, flat}
 use Rattle.positions.specs.declared.Position.{Position}
 use Rattle.positions.specs.declared.Mark.{Mark}
 
--- the net of now is the net before the next day, which has no trades yet
-abbrev pub overnight : Position → Position
-overnight p = record { before = p .net; net = p .net; cost = pos 0 }
-
--- Document 01, Close: "an ending contract's positions become zero".
+-- The net of now is the net before the next day. Document 01, Close: "an ending contract's positions become zero".
 abbrev pub carried : Position → Mark → Position
-carried p m = cond (m .ending) flat (overnight p)
+carried p m = cond (m .ending) flat (overnight (p .net))
 
 unfoldable pub allCarried : List Position → List Mark → List Position
 allCarried ps marks = zipped carried ps marks

@@ -4,7 +4,7 @@ use mathlib.Core.List.{List, [], _∷_, _++_, map}
 use lib.IntN.{ℤ, pos, _+ℤ_, _*ℤ_, +ℤ-idr, +ℤ-assoc}
 use Rattle.lists.specs.Rows.{map-append}
 use Rattle.whole.specs.Sums.{sumZ, sum-append}
-use Rattle.positions.specs.Deals.{Deal, lotsOf, costOf, positionOf, dealt}
+use Rattle.positions.specs.Deals.{Deal, lotsOf, costOf, positionOf, overnight, dealt}
 
 -- ---- two lists of deals
 -- whatever is summed over deals
@@ -20,7 +20,7 @@ unfolding costOf
 cost-append a b = sum-deals _ a b
 
 -- ---- no deal, and one more at the end
-pub position-none : (before : ℤ) → positionOf before [] ≡ record { before = before; net = before; cost = pos 0 }
+pub position-none : (before : ℤ) → positionOf before [] ≡ overnight before
 unfolding lotsOf costOf sumZ
 position-none before = rw (+ℤ-idr before)
 

@@ -31,9 +31,13 @@ costOf today = sumZ (map (λ d. d .lots *ℤ d .rate) today)
 abbrev pub positionOf : ℤ → List Deal → Position
 positionOf before today = record { before = before; net = before +ℤ lotsOf today; cost = costOf today }
 
+-- a net that is carried into a day in which nothing is traded yet
+abbrev pub overnight : ℤ → Position
+overnight net = record { before = net; net = net; cost = pos 0 }
+
 -- no position
 abbrev pub flat : Position
-flat = record { before = pos 0; net = pos 0; cost = pos 0 }
+flat = overnight (pos 0)
 
 -- ---- one deal more
 abbrev pub dealt : Position → ℤ → ℤ → Position

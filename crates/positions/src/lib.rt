@@ -4,7 +4,7 @@ ghost use mathlib.Core.Path.{_≡_};
 ghost use Prim.Native.Nat.{_<_, _≤_};
 ghost use lib.ListN.{replicate};
 ghost use Rattle.whole.specs.Within.{Within};
-ghost use Rattle.positions.specs.Deals.{flat, dealt, withDeal};
+ghost use Rattle.positions.specs.Deals.{overnight, flat, dealt, withDeal};
 ghost use Rattle.positions.specs.Totals.{asked, total, isBeyond};
 ghost use Rattle.positions.specs.Variation.{variationAt, variation};
 ghost use Rattle.positions.specs.Carried.{carried, allCarried};
@@ -29,15 +29,22 @@ pub struct Mark {
 // The furthest that a net may go, in lots.
 const NET_MOST: u64 = 20000;
 
+// A position as it is carried into a day: nothing is traded yet.
+fn overnight(net: i64) -> Position
+    ensures { λ r. ⌜ r ≡ overnight net ⌝ }
+{
+    Position {
+        before: net,
+        net,
+        cost: 0,
+    }
+}
+
 // No position in any contract.
 pub fn no_positions() -> [Position; 6]
     ensures { λ r. ⌜ r ≡ replicate 6 flat ⌝ }
 {
-    let none = Position {
-        before: 0,
-        net: 0,
-        cost: 0,
-    };
+    let none = overnight(0);
     [none; 6]
 }
 
@@ -70,8 +77,8 @@ pub fn total(positions: [Position; 6], margins: [u64; 6]) -> i64
 pub fn is_beyond(p: Position) -> bool
     ensures { λ r. ⌜ r ≡ isBeyond p ⌝ }
 {
-    let lots = size(p.net);
-    NET_MOST < lots
+    let far = size(p.net);
+    NET_MOST < far
 }
 
 // One position after lots bought, or sold where below 0, at a rate.
@@ -129,19 +136,11 @@ pub fn variation(positions: [Position; 6], marks: [Mark; 6]) -> i64
 fn carried(p: Position, m: Mark) -> Position
     ensures { λ r. ⌜ r ≡ carried p m ⌝ }
 {
-    let net = p.net;
     if m.ending {
-        return Position {
-            before: 0,
-            net: 0,
-            cost: 0,
-        };
+        return overnight(0);
     }
-    Position {
-        before: net,
-        net,
-        cost: 0,
-    }
+    let net = p.net;
+    overnight(net)
 }
 
 // What a close leaves of all of them.
@@ -149,14 +148,14 @@ pub fn all_carried(positions: [Position; 6], marks: [Mark; 6]) -> [Position; 6]
     requires { ⌜ Kept 10000 positions × PricedAll marks ⌝ }
     ensures { λ r. ⌜ r ≡ allCarried positions marks ⌝ }
 {
-    let mut after = positions;
+    let mut left = positions;
     let mut row: usize = 0;
     while row < 6 {
         let p = positions[row];
         let m = marks[row];
         let q = carried(p, m);
-        after[row] = q;
+        left[row] = q;
         row += 1;
     }
-    after
+    left
 }

@@ -13,10 +13,10 @@ use Rattle.positions.proofs.all_carried.Tie as tie
 
 -- the rows that the loop has passed are carried over, the others as they were
 abbrev Inv-loop : tie.InvT-loop
-Inv-loop positions marks after₀ row₀ after row = (after ≡ onto (zipped carried positions marks) positions row) × (row ≤ 6)
+Inv-loop positions marks left₀ row₀ left row = (left ≡ onto (zipped carried positions marks) positions row) × (row ≤ 6)
 
 abbrev μ-loop : tie.MeasureT-loop
-μ-loop positions marks after₀ row₀ after row = 6 - row
+μ-loop positions marks left₀ row₀ left row = 6 - row
 
 loop-holds : tie.Need-loop-holds Inv-loop μ-loop
 loop-holds c = (refl, omega arith)
@@ -36,11 +36,11 @@ array-copy-out-m c = omega arith
 carried-requires : tie.Need-carried-requires Inv-loop μ-loop
 carried-requires c κs = search needs
 
-mul-after : tie.Need-mul-after Inv-loop μ-loop
-mul-after c = omega arith
+mul-left : tie.Need-mul-left Inv-loop μ-loop
+mul-left c = omega arith
 
-array-set-from-after : tie.Need-array-set-from-after Inv-loop μ-loop
-array-set-from-after c = omega arith
+array-set-from-left : tie.Need-array-set-from-left Inv-loop μ-loop
+array-set-from-left c = omega arith
 
 add-row : tie.Need-add-row Inv-loop μ-loop
 add-row c = omega arith
@@ -54,10 +54,10 @@ loop-again c =
     let s = c .before .before .before .before .before in
     let ps = s .args .t1 in
     let marks = s .args .t2 in
-    let left = zipped carried ps marks in
-    let six : length left ≡ 6 = zipped-length carried ps marks (s .pre .0 .nets .six) (s .pre .1 .six) in (
+    let all = zipped carried ps marks in
+    let six : length all ≡ 6 = zipped-length carried ps marks (s .pre .0 .nets .six) (s .pre .1 .six) in (
       ap₂ (λ a q. set a (l .row) q) (l .inv .0) (c .carried .ensures ∙ sym (zipped-at carried flat flat noMark ps marks (l .row) (omega (arith, s .pre .0 .nets .six)) (omega (arith, s .pre .1 .six))))
-          ∙ onto-step flat left ps (l .row) (omega arith) (omega (arith, s .pre .0 .nets .six)),
+          ∙ onto-step flat all ps (l .row) (omega arith) (omega (arith, s .pre .0 .nets .six)),
       omega arith,
     )
 
@@ -68,11 +68,11 @@ returns c =
     let s = c .before .before in
     let ps = s .args .t1 in
     let marks = s .args .t2 in
-    let left = zipped carried ps marks in
+    let all = zipped carried ps marks in
     let end : l .row ≡ 6 = omega (arith, c .loop-test .left) in
     l .inv .0
-    ∙ ap (onto left ps) end
-    ∙ onto-all left ps 6 (zipped-length carried ps marks (s .pre .0 .nets .six) (s .pre .1 .six)) (s .pre .0 .nets .six)
+    ∙ ap (onto all ps) end
+    ∙ onto-all all ps 6 (zipped-length carried ps marks (s .pre .0 .nets .six) (s .pre .1 .six)) (s .pre .0 .nets .six)
 
 pub all-carried-spec : {M : Type 1} → statement M
 all-carried-spec =
@@ -86,8 +86,8 @@ all-carried-spec =
     mul-m
     array-copy-out-m
     carried-requires
-    mul-after
-    array-set-from-after
+    mul-left
+    array-set-from-left
     add-row
     loop-less
     loop-again
