@@ -2,10 +2,10 @@
 use mathlib.Core.Bool.{cond}
 use Prim.Native.Nat.{ℕ}
 use Rattle.holdings.specs.Holdings.{newHoldings}
-use Rattle.holdings.specs.DayEnd.{atClose, requirement, fullCore, withCore, withCoreBy}
 use Rattle.holdings.specs.declared.Limits.{Limits}
 use Rattle.holdings.specs.declared.Holdings.{Holdings}
-use Rattle.holdings.specs.declared.DayEnd.{DayEnd}
+use Rattle.closing.specs.DayEnd.{atClose, requirement, fullCore, withCore, withCoreBy}
+use Rattle.closing.specs.declared.DayEnd.{DayEnd}
 use Rattle.funds.specs.Funds.{newFunds, billed}
 use Rattle.funds.specs.declared.Funds.{Funds}
 use Rattle.accounts.specs.declared.Account.{Account}

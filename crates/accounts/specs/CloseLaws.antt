@@ -3,39 +3,22 @@ use mathlib.Core.Path.{_≡_, refl, _∙_, ap, subst}
 use mathlib.Core.Bool.{true, false}
 use Prim.Native.Nat.{ℕ, _+_}
 use lib.Dec.{T}
-use lib.IntN.{ℤ, pos, _+ℤ_, _-ℤ_, _*ℤ_, +ℤ-idl, +ℤ-idr, zero-*ℤ}
+use lib.IntN.{ℤ, pos, _+ℤ_, +ℤ-idl, +ℤ-idr}
 use lib.Signed.{leZ, _≤ℤ_, _<ℤ_, clashℤ}
 use Rattle.lists.specs.Keep.{cond-keeps}
-use Rattle.whole.specs.Parts.{parts₂, parts₃, ring, zarith}
-use Rattle.whole.specs.Order.{pos-nonneg, *ℤ-nonneg}
+use Rattle.whole.specs.Parts.{parts₃, ring, zarith}
 use Rattle.whole.specs.Tests.{le-yes}
-use Rattle.whole.specs.Larger.{larger, larger-above, smaller-below, ring-larger}
-use Rattle.whole.specs.Round.{hundredthUp}
-use Rattle.whole.specs.RoundLaws.{hundredth-nonneg}
+use Rattle.whole.specs.Larger.{larger-above, smaller-below}
 use Rattle.positions.specs.Variation.{variation}
 use Rattle.holdings.specs.Holdings.{basis}
-use Rattle.holdings.specs.DayEnd.{atClose, overLimit, requirement, fullCore, withCore}
-use Rattle.holdings.specs.declared.DayEnd.{DayEnd}
+use Rattle.closing.specs.DayEndLaws.{over-nonneg, over-none}
+use Rattle.closing.specs.DayEnd.{atClose, overLimit, requirement, fullCore, withCore}
+use Rattle.closing.specs.declared.DayEnd.{DayEnd}
 use Rattle.funds.specs.Funds.{billed, settled}
 use Rattle.funds.specs.FundsLaws.{worth, billed-worth, settled-paid, settled-unpaid}
 use Rattle.funds.specs.declared.Settlement.{Settlement}
 use Rattle.accounts.specs.Accounts.{closed, refreshed}
 use Rattle.accounts.specs.declared.Account.{Account}
-
--- ---- the over-limit: never negative, and none where the total is within the basis
-over-nonneg : (total basis : ℤ) (multiplier : ℕ) → pos 0 ≤ℤ overLimit total basis multiplier
-unfolding overLimit
-over-nonneg total basis multiplier =
-    hundredth-nonneg (larger (total -ℤ basis) (pos 0) *ℤ pos multiplier)
-    (*ℤ-nonneg (larger-above (total -ℤ basis) (pos 0) .1) (pos-nonneg multiplier))
-
-over-none : (total basis : ℤ) (multiplier : ℕ) → total ≤ℤ basis → overLimit total basis multiplier ≡ pos 0
-unfolding overLimit hundredthUp
-over-none total basis multiplier h =
-    ap (λ z. hundredthUp (z *ℤ pos multiplier)) (none total basis h) ∙ ap hundredthUp (zero-*ℤ (pos multiplier))
-  where
-    none : (t b : ℤ) → t ≤ℤ b → larger (t -ℤ b) (pos 0) ≡ pos 0
-    none t b = parts₂ t b (λ x y. simp (x .is, y .is, ring-larger) (omega zarith))
 
 module _ (d : DayEnd) (a : Account) where
   -- the account after the close, its next settlement, its basis, and what the close booked

@@ -14,11 +14,11 @@ use Rattle.positions.specs.Variation.{variationAt, variation}
 use Rattle.positions.specs.Carried.{allCarried}
 use Rattle.holdings.specs.Holdings.{newHoldings, withTrade}
 use Rattle.holdings.specs.Limits.{totalsOf, isOver, sideOf, refusalOf}
-use Rattle.holdings.specs.DayEnd.{atClose, overLimit, requirement, withCore}
-use Rattle.holdings.specs.declared.DayEnd.{DayEnd}
 use Rattle.holdings.specs.declared.Holdings.{Holdings}
 use Rattle.holdings.specs.declared.Side.{Side}
 use Rattle.holdings.specs.declared.Side.the-variants.{Passes}
+use Rattle.closing.specs.DayEnd.{atClose, overLimit, requirement, withCore}
+use Rattle.closing.specs.declared.DayEnd.{DayEnd}
 use Rattle.funds.specs.Funds.{newFunds, billed, paidUp, settled, paidIn, after}
 use Rattle.funds.specs.declared.Funds.{Funds}
 use Rattle.accounts.specs.Accounts.{newAccount, closed}

@@ -1,20 +1,21 @@
 // An account: what it holds and what it has, joined where document 01 joins them (document 01, 'Trade', 'Close' and 'Refresh').
 ghost use mathlib.Core.Path.{_≡_};
 ghost use Rattle.funds.specs.Bounds.{daysMost};
-ghost use Rattle.holdings.specs.Bounds.{Granted, GoodReference, GoodDayEnd};
+ghost use Rattle.holdings.specs.Bounds.{Granted, GoodReference};
+ghost use Rattle.closing.specs.Bounds.{GoodDayEnd};
 ghost use Rattle.accounts.specs.Accounts.{newAccount, closed, refreshed};
 ghost use Rattle.accounts.specs.Bounds.{Sound};
+use closing::DayEnd;
+use closing::at_close;
+use closing::requirement;
+use closing::with_core_by;
+use closing::with_full_core;
 use funds::Funds;
 use funds::billed;
 use funds::new_funds;
-use holdings::DayEnd;
 use holdings::Holdings;
 use holdings::Limits;
-use holdings::at_close;
 use holdings::new_holdings;
-use holdings::requirement;
-use holdings::with_core_by;
-use holdings::with_full_core;
 
 pub struct Account {
     pub number: u64,

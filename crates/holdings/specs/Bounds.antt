@@ -2,25 +2,18 @@
 use Prim.Native.Nat.{ℕ, _≤_}
 use Rattle.whole.specs.Within.{Within}
 use Rattle.whole.specs.Amounts.{Amount}
-use Rattle.positions.specs.Bounds.{Margins, PricedAll, Kept, dayMost}
+use Rattle.positions.specs.Bounds.{Kept, dayMost}
 use Rattle.holdings.specs.declared.Limits.{Limits}
 use Rattle.holdings.specs.declared.Holdings.{Holdings}
-use Rattle.holdings.specs.declared.DayEnd.{DayEnd}
 
 -- Document 01, Units and ceilings: "clearing limit (lots) | 0 | 1,000,000", "tolerance, special margin | 0 | 10^14".
 pub record Granted (l : Limits) : Type 0 where
   pub clearing : l .clearing ≤ 1000000
   pub tolerance : Amount 100000000000000 (l .tolerance)
 
--- "margin rate, reference rate (fen a lot) | 1 | 100,000,000", "multiplier (hundredths) | 100 | 1,000"
+-- "margin rate, reference rate (fen a lot) | 1 | 100,000,000"
 pub record GoodReference (reference : ℕ) : Type 0 where
   pub most : reference ≤ 100000000
-
-pub record GoodDayEnd (d : DayEnd) : Type 0 where
-  pub marks : PricedAll (d .marks)
-  pub margins : Margins (d .margins)
-  pub reference : GoodReference (d .reference)
-  pub multiplier : d .multiplier ≤ 1000
 
 -- Six nets of 20,000 lots at 100,000,000 are 1.2 * 10^13. A clearing limit of 1,000,000 lots at 100,000,000 is 10^14.
 pub record Sound (trades : ℕ) (h : Holdings) : Type 0 where

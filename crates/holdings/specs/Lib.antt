@@ -1,6 +1,5 @@
 pub mod Holdings
 pub mod Limits
-pub mod DayEnd
 pub mod Bounds
 pub mod BoundLaws
 pub mod LimitLaws

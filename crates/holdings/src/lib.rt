@@ -1,25 +1,17 @@
-// What an account holds: its positions, its limits, its core and special margin, and what the last close found. Trades and the
-// first half of a close are over this part of an account alone (document 01, 'Trade', 'Close' and 'Refresh').
+// What an account holds: its positions, its limits, its core and special margin, and what the last close found. Trades and
+// limits are over this part of an account alone (document 01, 'Trade').
 ghost use mathlib.Core.Path.{_≡_};
-ghost use Prim.Native.Nat.{_<_, _≤_};
+ghost use Prim.Native.Nat.{_<_};
 ghost use Rattle.whole.specs.Within.{Within};
-ghost use Rattle.whole.specs.Amounts.{Amount};
 ghost use Rattle.positions.specs.Bounds.{Margins, Nets};
 ghost use Rattle.holdings.specs.Holdings.{newHoldings, withLimits, withSpecial, withTrade, basis};
 ghost use Rattle.holdings.specs.Limits.{isOver, totalsOf, byTotals, sideOf};
-ghost use Rattle.holdings.specs.DayEnd.{atClose, overLimit, requirement, fullCore, withCore, withCoreBy};
-ghost use Rattle.holdings.specs.Bounds.{Granted, Sound, GoodDayEnd, GoodReference};
-use positions::Mark;
+ghost use Rattle.holdings.specs.Bounds.{Granted, GoodReference, Sound};
 use positions::Position;
-use positions::all_carried;
 use positions::is_beyond;
 use positions::no_positions;
 use positions::total;
-use positions::variation;
 use positions::with_deal;
-use whole::hundredth_up;
-use whole::larger;
-use whole::smaller;
 
 // The clearing limit, in lots, and the tolerance, in fen.
 pub struct Limits {
@@ -53,16 +45,8 @@ pub enum Side {
     Over(Totals),
 }
 
-// What a close has for every account: how each contract is marked, the margin rates, the reference rate and the multiplier.
-pub struct DayEnd {
-    pub marks: [Mark; 6],
-    pub margins: [u64; 6],
-    pub reference: u64,
-    pub multiplier: u64,
-}
-
 // The clearing limit at the reference rate.
-fn basis(limits: Limits, reference: u64) -> i64
+pub fn basis(limits: Limits, reference: u64) -> i64
     requires { ⌜ Granted limits × GoodReference reference ⌝ }
     ensures { λ r. ⌜ r ≡ basis limits reference ⌝ }
 {
@@ -166,90 +150,4 @@ pub fn side_of(h: Holdings, after: Holdings, row: usize, margins: [u64; 6]) -> S
     }
     let t = totals_of(h, after, margins);
     by_totals(t)
-}
-
-// The first half of a close: limits come into force, variation is found, ending positions go, and the day-end total is taken at
-// the positions left.
-pub fn at_close(h: Holdings, d: DayEnd) -> Holdings
-    requires { ⌜ Sound 10000 h × GoodDayEnd d ⌝ }
-    ensures { λ r. ⌜ r ≡ atClose d h ⌝ }
-{
-    let p = h.positions;
-    let marks = d.marks;
-    let margins = d.margins;
-    let booked = variation(p, marks);
-    let positions = all_carried(p, marks);
-    let dayend = total(positions, margins);
-    let limits = h.coming;
-    let mut x = h;
-    x.limits = limits;
-    x.dayend = dayend;
-    x.variation = booked;
-    x.positions = positions;
-    x
-}
-
-// What a total asks beyond the basis: the excess at the multiplier, in hundredths, rounded up.
-fn over_limit(total: i64, basis: i64, multiplier: u64) -> i64
-    requires { ⌜ Amount 12000000000000 total × (Amount 100000000000000 basis × (multiplier ≤ 1000)) ⌝ }
-    ensures { λ r. ⌜ r ≡ overLimit total basis multiplier ⌝ }
-{
-    let excess = larger(total - basis, 0);
-    let by = multiplier as i64;
-    hundredth_up(excess * by)
-}
-
-// The requirement after a close.
-pub fn requirement(h: Holdings, reference: u64, multiplier: u64) -> i64
-    requires { ⌜ Sound 10000 h × (GoodReference reference × (multiplier ≤ 1000)) ⌝ }
-    ensures { λ r. ⌜ r ≡ requirement h reference multiplier ⌝ }
-{
-    let limits = h.limits;
-    let least = basis(limits, reference);
-    let total = h.dayend;
-    let over = over_limit(total, least, multiplier);
-    least + over + h.special
-}
-
-// The core of an account that has its margin: the basis, or the day-end total where that is more.
-fn full_core(h: Holdings, reference: u64) -> i64
-    requires { ⌜ Granted (h .limits) × GoodReference reference ⌝ }
-    ensures { λ r. ⌜ r ≡ fullCore h reference ⌝ }
-{
-    let limits = h.limits;
-    let least = basis(limits, reference);
-    let total = h.dayend;
-    larger(least, total)
-}
-
-// With another core.
-fn with_core(h: Holdings, core: i64) -> Holdings
-    ensures { λ r. ⌜ r ≡ withCore h core ⌝ }
-{
-    let mut x = h;
-    x.core = core;
-    x
-}
-
-// The core refreshed.
-pub fn with_full_core(h: Holdings, reference: u64) -> Holdings
-    requires { ⌜ Granted (h .limits) × GoodReference reference ⌝ }
-    ensures { λ r. ⌜ r ≡ withCore h (fullCore h reference) ⌝ }
-{
-    let core = full_core(h, reference);
-    with_core(h, core)
-}
-
-// The second half of a close: the core by the sign of free. Where margin is missing it is not raised.
-pub fn with_core_by(h: Holdings, reference: u64, free: i64) -> Holdings
-    requires { ⌜ Granted (h .limits) × GoodReference reference ⌝ }
-    ensures { λ r. ⌜ r ≡ withCoreBy h reference free ⌝ }
-{
-    let full = full_core(h, reference);
-    if 0 <= free {
-        return with_core(h, full);
-    }
-    let old = h.core;
-    let core = smaller(full, old);
-    with_core(h, core)
 }

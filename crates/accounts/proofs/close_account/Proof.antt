@@ -5,9 +5,10 @@ use mir.Syntax.{w64}
 use mir.Val.{toZ, ofZ}
 use Rattle.whole.specs.Machine.{arg, told, passed}
 use Rattle.whole.specs.Amounts.{Amount}
-use Rattle.holdings.specs.DayEnd.{atClose, requirement, withCoreBy}
 use Rattle.holdings.specs.Bounds as holdings
-use Rattle.holdings.specs.BoundLaws.{close-sound, sound-wider, requirement-amount}
+use Rattle.holdings.specs.BoundLaws.{sound-wider}
+use Rattle.closing.specs.DayEnd.{atClose, requirement, withCoreBy}
+use Rattle.closing.specs.BoundLaws.{close-sound, requirement-amount}
 use Rattle.funds.specs.Funds.{billed}
 use Rattle.funds.specs.Bounds.{requirementMost}
 use Rattle.accounts.specs.Accounts.{billOf, closed}

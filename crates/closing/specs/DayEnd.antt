@@ -8,9 +8,9 @@ use Rattle.whole.specs.Round.{hundredthUp}
 use Rattle.positions.specs.Totals.{total}
 use Rattle.positions.specs.Variation.{variation}
 use Rattle.positions.specs.Carried.{allCarried}
 use Rattle.holdings.specs.Holdings.{basis}
 use Rattle.holdings.specs.declared.Holdings.{Holdings}
-use Rattle.holdings.specs.declared.DayEnd.{DayEnd}
+use Rattle.closing.specs.declared.DayEnd.{DayEnd}
 
 -- Document 01, Close, in order: "limits set since the last close come into force; rates; variation per account and contract ..;
 -- an ending contract's positions become zero; then day-end total at the positions left".

@@ -6,9 +6,9 @@ use lib.Signed.{leZ}
 use Rattle.whole.specs.Machine.{back, told}
 use Rattle.whole.specs.Tests.{le-is}
 use Rattle.whole.specs.Larger.{smaller}
-use Rattle.holdings.specs.DayEnd.{withCore}
-use Rattle.holdings.proofs.with_core_by.Statement.{statement}
-use Rattle.holdings.proofs.with_core_by.Tie as tie
+use Rattle.closing.specs.DayEnd.{withCore}
+use Rattle.closing.proofs.with_core_by.Statement.{statement}
+use Rattle.closing.proofs.with_core_by.Tie as tie
 
 full-core-requires : tie.Need-full-core-requires
 full-core-requires c κs = search needs

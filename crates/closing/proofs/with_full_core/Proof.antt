@@ -1,9 +1,9 @@
 use mathlib.Core.Path.{ap, _∙_}
 use borrow.Author.Needs.{needs}
 use Rattle.whole.specs.Machine.{told}
-use Rattle.holdings.specs.DayEnd.{withCore}
-use Rattle.holdings.proofs.with_full_core.Statement.{statement}
-use Rattle.holdings.proofs.with_full_core.Tie as tie
+use Rattle.closing.specs.DayEnd.{withCore}
+use Rattle.closing.proofs.with_full_core.Statement.{statement}
+use Rattle.closing.proofs.with_full_core.Tie as tie
 
 full-core-requires : tie.Need-full-core-requires
 full-core-requires c κs = search needs

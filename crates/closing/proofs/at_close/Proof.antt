@@ -3,9 +3,9 @@ use native.Mathlib.Omega.{arith}
 use borrow.Author.Needs.{needs}
 use Rattle.whole.specs.Machine.{told}
 use Rattle.positions.specs.BoundLaws.{nets-wider, carried-kept}
-use Rattle.holdings.specs.DayEnd.{atClose}
-use Rattle.holdings.proofs.at_close.Statement.{statement}
-use Rattle.holdings.proofs.at_close.Tie as tie
+use Rattle.closing.specs.DayEnd.{atClose}
+use Rattle.closing.proofs.at_close.Statement.{statement}
+use Rattle.closing.proofs.at_close.Tie as tie
 
 variation-requires : tie.Need-variation-requires
 variation-requires c κs = search needs

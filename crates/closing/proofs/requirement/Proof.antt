@@ -5,11 +5,12 @@ use mir.Syntax.{w64}
 use mir.Val.{toZ, ofZ}
 use Rattle.whole.specs.Machine.{Got, got, arg, told, held, kept, fits, add}
 use Rattle.whole.specs.Amounts.{Amount, amount-within}
 use Rattle.holdings.specs.Holdings.{basis}
-use Rattle.holdings.specs.DayEnd.{overLimit, requirement}
-use Rattle.holdings.specs.BoundLaws.{basis-amount, over-amount}
-use Rattle.holdings.proofs.requirement.Statement.{statement}
-use Rattle.holdings.proofs.requirement.Tie as tie
+use Rattle.holdings.specs.BoundLaws.{basis-amount}
+use Rattle.closing.specs.DayEnd.{overLimit, requirement}
+use Rattle.closing.specs.BoundLaws.{over-amount}
+use Rattle.closing.proofs.requirement.Statement.{statement}
+use Rattle.closing.proofs.requirement.Tie as tie
 
 basis-requires : tie.Need-basis-requires
 basis-requires c κs = search needs

@@ -2,8 +2,8 @@ use mathlib.Core.Path.{ap₂, _∙_}
 use borrow.Author.Needs.{needs}
 use Rattle.whole.specs.Machine.{told}
 use Rattle.whole.specs.Larger.{larger}
-use Rattle.holdings.proofs.full_core.Statement.{statement}
-use Rattle.holdings.proofs.full_core.Tie as tie
+use Rattle.closing.proofs.full_core.Statement.{statement}
+use Rattle.closing.proofs.full_core.Tie as tie
 
 basis-requires : tie.Need-basis-requires
 basis-requires c κs = search needs

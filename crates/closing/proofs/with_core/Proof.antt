@@ -1,7 +1,7 @@
 use Rattle.whole.specs.Machine.{back}
-use Rattle.holdings.specs.DayEnd.{withCore}
-use Rattle.holdings.proofs.with_core.Statement.{statement}
-use Rattle.holdings.proofs.with_core.Tie as tie
+use Rattle.closing.specs.DayEnd.{withCore}
+use Rattle.closing.proofs.with_core.Statement.{statement}
+use Rattle.closing.proofs.with_core.Tie as tie
 
 returns : tie.Need-returns
 unfolding withCore

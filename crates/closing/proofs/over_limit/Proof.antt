@@ -6,9 +6,9 @@ use Rattle.whole.specs.Machine.{Got, got, arg, told, held, kept, fits, unsigned
 use Rattle.whole.specs.Larger.{larger, larger-within}
 use Rattle.whole.specs.Round.{hundredthUp}
 use Rattle.whole.specs.Amounts.{amount-within}
-use Rattle.holdings.specs.DayEnd.{overLimit}
-use Rattle.holdings.proofs.over_limit.Statement.{statement}
-use Rattle.holdings.proofs.over_limit.Tie as tie
+use Rattle.closing.specs.DayEnd.{overLimit}
+use Rattle.closing.proofs.over_limit.Statement.{statement}
+use Rattle.closing.proofs.over_limit.Tie as tie
 
 abbrev above : (s : tie.Start) → Got 112000000000000 (s .args .total -ℤ s .args .basis)
 above s = got (sub (arg (amount-within (s .pre .0)) tt) (arg (amount-within (s .pre .1 .0)) tt))

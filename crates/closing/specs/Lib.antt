@@ -1,0 +1,4 @@
+pub mod DayEnd
+pub mod DayEndLaws
+pub mod Bounds
+pub mod BoundLaws
