@@ -6,7 +6,7 @@ use lib.IntN.{ℤ, pos, negℤ, _+ℤ_, _-ℤ_, +ℤ-assoc, +ℤ-idr, +ℤ-invr}
 use lib.Signed.{ltZ, leZ, _≤ℤ_, _<ℤ_, ≤ℤ-refl, clashℤ}
 use Rattle.lists.specs.Keep.{cond-keeps}
 use Rattle.whole.specs.Parts.{parts₂, parts₄, ring, zarith}
-use Rattle.whole.specs.Tests.{lt-no, le-yes, le-no}
+use Rattle.whole.specs.Tests.{lt-no, le-yes, le-no, lt-true, lt-false}
 use Rattle.funds.specs.Funds.{billed, paidUp, inDefault, need, settled}
 use Rattle.funds.specs.Funds.{withMoney, cashMost, paidIn, paidOut, released, refusalOf, after}
 use Rattle.funds.specs.Bounds.{Billed}
@@ -213,6 +213,44 @@ module _ (f : Funds) (bill : Billed f) where
       (λ free short called. absurd (called refl))
 
 -- ---- payments
+-- Each refusal in its case, and in no other. Document 01, Refusal numbers: "17 | pay in: cash + margin would exceed 10^17", "12 |
+-- account in default", "15 | more than cash (pay out) or than may be released".
+module _ (f : Funds) (amount : ℤ) where
+  pub paid-in-full : cashMost <ℤ ((f .cash +ℤ amount) +ℤ f .margin) → paidIn f amount ≡ Full
+  unfolding paidIn
+  paid-in-full h = rw (lt-true h)
+
+  pub paid-in-made : ((f .cash +ℤ amount) +ℤ f .margin) ≤ℤ cashMost
+      → paidIn f amount ≡ Made (withMoney f (f .cash +ℤ amount) (f .margin))
+  unfolding paidIn
+  paid-in-made h = rw (lt-false h)
+
+  pub paid-out-default : f .flag ≡ true → paidOut f amount ≡ InDefault
+  unfolding paidOut
+  paid-out-default e = rw e
+
+  pub paid-out-more : f .flag ≡ false → f .cash <ℤ amount → paidOut f amount ≡ TooMuch
+  unfolding paidOut
+  paid-out-more e h = rw (e, lt-true h)
+
+  pub paid-out-made : f .flag ≡ false → amount ≤ℤ f .cash
+      → paidOut f amount ≡ Made (withMoney f (f .cash -ℤ amount) (f .margin))
+  unfolding paidOut
+  paid-out-made e h = rw (e, lt-false h)
+
+  pub released-default : f .flag ≡ true → released f amount ≡ InDefault
+  unfolding released
+  released-default e = rw e
+
+  pub released-more : f .flag ≡ false → (f .margin -ℤ f .requirement) <ℤ amount → released f amount ≡ TooMuch
+  unfolding released
+  released-more e h = rw (e, lt-true h)
+
+  pub released-made : f .flag ≡ false → amount ≤ℤ (f .margin -ℤ f .requirement)
+      → released f amount ≡ Made (withMoney f (f .cash +ℤ amount) (f .margin -ℤ amount))
+  unfolding released
+  released-made e h = rw (e, lt-false h)
+
 -- a refusal changes nothing
 pub refused-same : (f : Funds) (p : Payment) → ¬ (refusalOf p ≡ 0) → after f p ≡ f
 refused-same f (Made g) refused = absurd (refused refl)

@@ -7,13 +7,12 @@ use Prim.Native.Nat.{ℕ, _≤_, _<_}
 use native.Mathlib.Nat.{le-trans}
 use native.Mathlib.Omega.{arith}
 use borrow.Author.Tests.{ltb-true, ltb-false}
-use lib.Ieee.Bits.{is-true}
 use lib.ListN.{getD}
 use lib.IntN.{ℤ, pos, natAbs, _+ℤ_}
 use lib.Signed.{ltZ, _≤ℤ_, _<ℤ_, clashℤ}
 use Rattle.lists.specs.Keep.{cond-keeps, set-keeps}
 use Rattle.whole.specs.Order.{≤ℤ-total}
-use Rattle.whole.specs.Tests.{lt-yes}
+use Rattle.whole.specs.Tests.{lt-yes, lt-true}
 use Rattle.positions.specs.Deals.{flat, dealt, withDeal}
 use Rattle.positions.specs.Totals.{isBeyond}
 use Rattle.positions.specs.TotalLaws.{total-reduced}
@@ -31,7 +30,7 @@ unfolding isOver
 over-exactly t =
     let tests = and-eq-true-iff (ltZ (t .limit) (t .after)) (ltZ (t .before) (t .after)) in (
       λ e. let both = tests .0 e in (lt-yes refl refl (both .0), lt-yes refl refl (both .1)),
-      λ h. tests .1 (is-true (ltZ (t .limit) (t .after)) (h .0 .lt), is-true (ltZ (t .before) (t .after)) (h .1 .lt)),
+      λ h. tests .1 (lt-true (h .0), lt-true (h .1)),
     )
 
 -- a total that does not rise, whatever the limit

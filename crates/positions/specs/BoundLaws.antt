@@ -34,7 +34,11 @@ pub modest-at : {ps : List Position} → Kept 10000 ps → (i : ℕ) → Modest 
 modest-at {ps} k i = record {
   before = k .befores i;
   net = k .nets .at i;
-  cost = record { size = le-trans (subst (λ z. natAbs z ≤ costs ps) (List·getD-map (λ p. p .cost) ps i flat) (sizes-at (map (λ p. p .cost) ps) i)) (k .costs) };
+  cost = record {
+    size = le-trans
+        (subst (λ z. natAbs z ≤ costs ps) (List·getD-map (λ p. p .cost) ps i flat) (sizes-at (map (λ p. p .cost) ps) i))
+        (k .costs);
+  };
 }
 
 -- ---- totals
@@ -48,14 +52,19 @@ asked-each {most} {ps} {margins} n m = record {
 pub total-amount : {most : ℕ} {ps : List Position} {margins : List ℕ} → Nets most ps → Margins margins
     → Amount (6 * (most * 100000000)) (total ps margins)
 unfolding total zipped sumZ
-total-amount {most} {ps} {margins} n m = subst (λ k. Amount (k * (most * 100000000)) (sumZ (zipped asked ps margins))) (n .six) (go ps margins (n .at) (m .at))
+total-amount {most} {ps} {margins} n m =
+    subst (λ k. Amount (k * (most * 100000000)) (sumZ (zipped asked ps margins))) (n .six) (go ps margins (n .at) (m .at))
   where
-    go : (ps : List Position) (margins : List ℕ) → ((i : ℕ) → Within most (getD ps i flat .net)) → ((i : ℕ) → getD margins i 0 ≤ 100000000)
+    go : (ps : List Position) (margins : List ℕ)
+        → ((i : ℕ) → Within most (getD ps i flat .net)) → ((i : ℕ) → getD margins i 0 ≤ 100000000)
         → Amount (length ps * (most * 100000000)) (sumZ (zipped asked ps margins))
     go [] margins h k = amount-pos 0 (omega arith)
     go (p ∷ ps) [] h k = amount-pos 0 (omega arith)
     go (p ∷ ps) (m ∷ margins) h k =
-        amount-widen (amount-+ (amount-pos (natAbs (p .net) * m) (mul-le-mul (h 0 .size) (k 0))) (go ps margins (λ i. h (suc i)) (λ i. k (suc i)))) (omega arith)
+        amount-widen
+        (amount-+ (amount-pos (natAbs (p .net) * m) (mul-le-mul (h 0 .size) (k 0)))
+        (go ps margins (λ i. h (suc i)) (λ i. k (suc i))))
+        (omega arith)
 
 -- ---- variation
 -- The net at the new rate, less the net before today at the old one, less today's cost.
@@ -65,9 +74,12 @@ unfolding variationAt
 variation-is p m = ap (λ z. pos 250 *ℤ z) (terms (p .net) (p .before) (p .cost) (m .rate) (m .previous))
   where
     terms : (n b c r q : ℤ) → ((n -ℤ b) *ℤ r -ℤ c) +ℤ b *ℤ (r -ℤ q) ≡ (n *ℤ r -ℤ b *ℤ q) -ℤ c
-    terms n b c r q = simp expand (parts₄ (n *ℤ r) (b *ℤ r) (b *ℤ q) c (λ w x y z. simp (w .is, x .is, y .is, z .is, ring) (omega zarith)))
+    terms n b c r q =
+        simp expand
+        (parts₄ (n *ℤ r) (b *ℤ r) (b *ℤ q) c (λ w x y z. simp (w .is, x .is, y .is, z .is, ring) (omega zarith)))
 
-pub variation-at-within : {c : ℕ} {p : Position} {m : Mark} → Within 20000 (p .before) → Within 20000 (p .net) → Within c (p .cost) → Priced m
+pub variation-at-within : {c : ℕ} {p : Position} {m : Mark}
+    → Within 20000 (p .before) → Within 20000 (p .net) → Within c (p .cost) → Priced m
     → Within (250 * (4000000000 + c)) (variationAt p m)
 variation-at-within {c} {p} {m} b n k r =
     subst (Within (250 * (4000000000 + c))) (sym (variation-is p m))
@@ -83,14 +95,20 @@ variation-each {ps} {marks} k r = record {
 pub variation-within : {trades : ℕ} {ps : List Position} {marks : List Mark} → Kept trades ps → PricedAll marks
     → Within (dayMost (trades * 100000000)) (variation ps marks)
 unfolding variation zipped sizes
-variation-within {trades} {ps} {marks} k r = record { size = le-trans (sum-sizes (zipped variationAt ps marks)) (omega (arith, all ps marks (k .befores) (k .nets .at) (r .at), k .nets .six, k .costs)) }
+variation-within {trades} {ps} {marks} k r = record {
+  size = le-trans (sum-sizes (zipped variationAt ps marks))
+      (omega (arith, all ps marks (k .befores) (k .nets .at) (r .at), k .nets .six, k .costs));
+}
   where
-    all : (ps : List Position) (marks : List Mark) → ((i : ℕ) → Within 20000 (getD ps i flat .before)) → ((i : ℕ) → Within 20000 (getD ps i flat .net))
-        → ((i : ℕ) → Priced (getD marks i noMark)) → sizes (zipped variationAt ps marks) ≤ 250 * (costs ps + length ps * 4000000000)
+    all : (ps : List Position) (marks : List Mark)
+        → ((i : ℕ) → Within 20000 (getD ps i flat .before)) → ((i : ℕ) → Within 20000 (getD ps i flat .net))
+        → ((i : ℕ) → Priced (getD marks i noMark))
+        → sizes (zipped variationAt ps marks) ≤ 250 * (costs ps + length ps * 4000000000)
     all [] marks b n r = omega arith
     all (p ∷ ps) [] b n r = omega arith
     all (p ∷ ps) (m ∷ marks) b n r =
-        omega (arith, variation-at-within {c = natAbs (p .cost)} {p = p} {m = m} (b 0) (n 0) (lit (p .cost)) (r 0) .size, all ps marks (λ i. b (suc i)) (λ i. n (suc i)) (λ i. r (suc i)))
+        let here = variation-at-within {c = natAbs (p .cost)} {p = p} {m = m} (b 0) (n 0) (lit (p .cost)) (r 0) in
+        omega (arith, here .size, all ps marks (λ i. b (suc i)) (λ i. n (suc i)) (λ i. r (suc i)))
 
 -- ---- kept
 pub none-kept : Kept 0 (replicate 6 flat)
@@ -108,7 +126,8 @@ pub kept-wider : {few many : ℕ} {ps : List Position} → Kept few ps → few �
 kept-wider {few} {many} k h = record { nets = k .nets; befores = k .befores; costs = omega (arith, k .costs) }
 
 -- Nothing of today is carried over, and nothing of a contract that ends.
-pub carried-kept : {trades : ℕ} {ps : List Position} {marks : List Mark} → Kept trades ps → PricedAll marks → Kept 0 (allCarried ps marks)
+pub carried-kept : {trades : ℕ} {ps : List Position} {marks : List Mark} → Kept trades ps → PricedAll marks
+    → Kept 0 (allCarried ps marks)
 unfolding allCarried zipped sizes
 carried-kept {trades} {ps} {marks} k r = record {
   nets = record {
@@ -119,26 +138,36 @@ carried-kept {trades} {ps} {marks} k r = record {
   costs = omega (arith, untouched ps marks);
 }
   where
-    each : (f : Position → ℤ) → Within 20000 (f flat) → ((p : Position) → Within 20000 (p .net) → Within 20000 (f (overnight (p .net))))
+    each : (f : Position → ℤ) → Within 20000 (f flat)
+        → ((p : Position) → Within 20000 (p .net) → Within 20000 (f (overnight (p .net))))
         → (i : ℕ) → Within 20000 (f (getD (zipped carried ps marks) i flat))
     each f z h = zipped-keeps carried (λ p. Within 20000 (f p)) flat flat noMark ps marks z
-        (λ i. cond-keeps (λ p. Within 20000 (f p)) (getD marks i noMark .ending) flat (overnight (getD ps i flat .net)) (λ e. z) (λ e. h (getD ps i flat) (k .nets .at i)))
+        (λ i. cond-keeps (λ p. Within 20000 (f p)) (getD marks i noMark .ending) flat (overnight (getD ps i flat .net))
+        (λ e. z)
+        (λ e. h (getD ps i flat) (k .nets .at i)))
 
     untouched : (ps : List Position) (marks : List Mark) → costs (zipped carried ps marks) ≡ 0
     untouched [] marks = refl
     untouched (p ∷ ps) [] = refl
-    untouched (p ∷ ps) (m ∷ marks) = omega (arith, cond-keeps (λ q. natAbs (q .cost) ≡ 0) (m .ending) flat (overnight (p .net)) (λ e. refl) (λ e. refl), untouched ps marks)
+    untouched (p ∷ ps) (m ∷ marks) =
+        let here : natAbs (carried p m .cost) ≡ 0 =
+        cond-keeps (λ q. natAbs (q .cost) ≡ 0) (m .ending) flat (overnight (p .net)) (λ e. refl) (λ e. refl) in
+        omega (arith, here, untouched ps marks)
 
 -- ---- a trade
-module _ {trades : ℕ} {ps : List Position} {lots rate : ℤ} (k : Kept trades ps) (row : ℕ) (l : Within 1000 lots) (r : Within 100000 rate) where
+module _ {trades : ℕ} {ps : List Position} {lots rate : ℤ}
+    (k : Kept trades ps) (row : ℕ) (l : Within 1000 lots) (r : Within 100000 rate) where
   pub deal-nets : Nets 21000 (withDeal ps row lots rate)
   unfolding withDeal
   deal-nets = record {
     six = length-set ps row (dealt (getD ps row flat) lots rate) ∙ k .nets .six;
-    at = λ i. set-keeps (λ p. Within 21000 (p .net)) flat ps row i (dealt (getD ps row flat) lots rate) (within-+ (k .nets .at row) l) (wider (k .nets .at i) tt);
+    at = λ i. set-keeps (λ p. Within 21000 (p .net)) flat ps row i (dealt (getD ps row flat) lots rate)
+        (within-+ (k .nets .at row) l)
+        (wider (k .nets .at i) tt);
   }
 
-  pub deal-kept : row < 6 → isBeyond (getD (withDeal ps row lots rate) row flat) ≡ false → Kept (trades + 1) (withDeal ps row lots rate)
+  pub deal-kept : row < 6 → isBeyond (getD (withDeal ps row lots rate) row flat) ≡ false
+      → Kept (trades + 1) (withDeal ps row lots rate)
   unfolding withDeal
   deal-kept h e = record {
     nets = record {

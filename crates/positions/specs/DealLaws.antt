@@ -28,4 +28,10 @@ pub position-dealt : (before : ℤ) (today : List Deal) (d : Deal)
     → positionOf before (today ++ (d ∷ [])) ≡ dealt (positionOf before today) (d .lots) (d .rate)
 unfolding lotsOf costOf sumZ
 position-dealt before today d =
-    rw (lots-append today (d ∷ []), cost-append today (d ∷ []), +ℤ-idr (d .lots), +ℤ-idr (d .lots *ℤ d .rate), +ℤ-assoc before (lotsOf today) (d .lots))
+    rw (
+      lots-append today (d ∷ []),
+      cost-append today (d ∷ []),
+      +ℤ-idr (d .lots),
+      +ℤ-idr (d .lots *ℤ d .rate),
+      +ℤ-assoc before (lotsOf today) (d .lots),
+    )

@@ -17,7 +17,8 @@ use Rattle.whole.specs.Sums.{sumZ, sum-more, sum-within}
 use Rattle.positions.specs.Deals.{flat}
 use Rattle.positions.specs.declared.Position.{Position}
 
-module _ {Y : Type 0} (f : Position → Y → ℤ) (y₀ : Y) (ps : List Position) (ys : List Y) (p : length ps ≡ 6) (q : length ys ≡ 6) where
+module _ {Y : Type 0} (f : Position → Y → ℤ) (y₀ : Y) (ps : List Position) (ys : List Y)
+    (p : length ps ≡ 6) (q : length ys ≡ 6) where
   abbrev passed : ℕ → ℤ
   passed row = sumZ (take row (zipped f ps ys))
 
@@ -29,7 +30,8 @@ module _ {Y : Type 0} (f : Position → Y → ℤ) (y₀ : Y) (ps : List Positio
       → e ≡ passed row → r ≡ f (getD ps row flat) (getD ys row y₀)
       → Reads (6 * B) (e +ℤ toZ w64 (ofZ w64 r)) (passed (row + 1))
   row-more {B} {e} {r} row each t h d a = record {
-    eq = ap₂ _+ℤ_ d (arg (subst (Within B) (sym answer) (each .at row)) t .eq ∙ answer) ∙ sym (sum-more (zipped f ps ys) row (omega (arith, six)));
+    eq = ap₂ _+ℤ_ d (arg (subst (Within B) (sym answer) (each .at row)) t .eq ∙ answer)
+        ∙ sym (sum-more (zipped f ps ys) row (omega (arith, six)));
     within = widen (sum-within (zipped f ps ys) (row + 1) each) (mul-le-mul-right B (omega arith));
   }
     where

@@ -6,7 +6,7 @@ use Prim.Native.Nat.{ℕ, _^_, _<_}
 use borrow.Author.Tests.{eq-eqb, eqb-true, eqb-false}
 use lib.Dec.{T, eqb}
 use lib.IntN.{ℤ, pos, negsuc, natAbs, _-ℤ_}
-use lib.Signed.{ltZ, leZ, nonNeg, _≤ℤ_, _<ℤ_, ltZ-yes, ltZ-no, leZ-yes, yes-nonNeg}
+use lib.Signed.{ltZ, leZ, nonNeg, _≤ℤ_, _<ℤ_, ltZ-yes, ltZ-no, leZ-yes, yes-nonNeg, clashℤ}
 use mir.Syntax.{w64}
 use mir.Val.{Fits, SFits, toZ, ofZ}
 use mir.Facts.{toZ-pos, fits-natAbs}
@@ -48,6 +48,13 @@ module _ {e f x y : ℤ} (p : e ≡ x) (q : f ≡ y) where
       go : (y <ℤ x) ⊎ (x ≤ℤ y) → y <ℤ x
       go (inl h) = h
       go (inr h) = absurd (subst T (sym (ap₂ leZ p q) ∙ t) (h .le))
+
+-- an order of the numbers as the flag of a test
+pub lt-true : {x y : ℤ} → x <ℤ y → ltZ x y ≡ true
+lt-true {x} {y} h = T-is (ltZ x y) (h .lt)
+
+pub lt-false : {x y : ℤ} → y ≤ℤ x → ltZ x y ≡ false
+lt-false {x} {y} h = F-is (ltZ x y) (λ t. clashℤ (ltZ-yes t) h)
 
 -- the test's flag at the numbers, for a contract that cites the test
 module _ {e f x y : ℤ} {t : Bool} (p : e ≡ x) (q : f ≡ y) where

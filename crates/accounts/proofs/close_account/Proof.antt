@@ -30,7 +30,9 @@ requirement-requires c κs =
     (sound-wider (left c) (omega arith), (s .pre .1 .reference, s .pre .1 .multiplier))
 
 -- the requirement, as the machine holds it
-asked : (c : tie.After-requirement) → let s = c .before .before .before .before in toZ w64 (ofZ w64 (c .requirement .result)) ≡ requirement (c .before .at-close .result) (s .args .d .reference) (s .args .d .multiplier)
+asked : (c : tie.After-requirement)
+    → let s = c .before .before .before .before in
+    toZ w64 (ofZ w64 (c .requirement .result)) ≡ requirement (c .before .at-close .result) (s .args .d .reference) (s .args .d .multiplier)
 asked c = told (c .requirement .result) (c .requirement .ok) ∙ c .requirement .ensures
 
 billed-requires : tie.Need-billed-requires
@@ -41,7 +43,9 @@ billed-requires c κs =
     (s .pre .0 .funds, (passed (arg (h .variation) tt), subst (Amount requirementMost) (sym (asked (c .before))) small))
 
 -- the bill is document 01's
-bill : (c : tie.After-billed) → let s = c .before .before .before .before .before .before in c .billed .result ≡ billOf (s .args .d) (atClose (s .args .d) (s .args .a .holdings)) (s .args .a .funds)
+bill : (c : tie.After-billed)
+    → let s = c .before .before .before .before .before .before in
+    c .billed .result ≡ billOf (s .args .d) (atClose (s .args .d) (s .args .a .holdings)) (s .args .a .funds)
 bill c =
     let s = c .before .before .before .before .before .before in
     let closing = c .before .before .before in
@@ -60,8 +64,12 @@ returns c =
     let closing = c .before .before .before .before .before in
     let billing = c .before .before in
     let s = closing .before .before .before in
-    let free = told (billing .billed .result .free) (c .before .struct-told2 .given .1 .1 .1 .1 .0 .1) ∙ ap (λ f. f .free) (bill billing) in
-    let held = c .with-core-by .ensures ∙ ap₂ (λ h z. withCoreBy h (s .args .d .reference) z) (closing .at-close .ensures) free in
+    let free =
+    told (billing .billed .result .free) (c .before .struct-told2 .given .1 .1 .1 .1 .0 .1)
+    ∙ ap (λ f. f .free) (bill billing) in
+    let held =
+    c .with-core-by .ensures
+    ∙ ap₂ (λ h z. withCoreBy h (s .args .d .reference) z) (closing .at-close .ensures) free in
     rw (held, bill billing)
 
 pub close-account-spec : {M : Type 1} → statement M

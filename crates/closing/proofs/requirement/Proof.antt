@@ -1,6 +1,6 @@
 use mathlib.Core.Path.{_≡_, sym, ap₂, subst, _∙_}
 use borrow.Author.Needs.{needs}
-use lib.IntN.{_+ℤ_}
+use lib.IntN.{ℤ, _+ℤ_}
 use mir.Syntax.{w64}
 use mir.Val.{toZ, ofZ}
 use Rattle.whole.specs.Machine.{Got, got, arg, told, held, kept, fits, add}
@@ -15,8 +15,14 @@ use Rattle.closing.proofs.requirement.Tie as tie
 basis-requires : tie.Need-basis-requires
 basis-requires c κs = search needs
 
--- the basis, and the over-limit, as the machine holds them
-least : (c : tie.After-basis) → let s = c .before .before in toZ w64 (ofZ w64 (c .basis .result)) ≡ basis (s .args .h .limits) (s .args .reference)
+-- the basis and the over-limit, and that the machine holds them
+abbrev basisAt : tie.Start → ℤ
+basisAt s = basis (s .args .h .limits) (s .args .reference)
+
+abbrev overAt : tie.Start → ℤ
+overAt s = overLimit (s .args .h .dayend) (basisAt s) (s .args .multiplier)
+
+least : (c : tie.After-basis) → toZ w64 (ofZ w64 (c .basis .result)) ≡ basisAt (c .before .before)
 least c = told (c .basis .result) (c .basis .ok) ∙ c .basis .ensures
 
 over-limit-requires : tie.Need-over-limit-requires
@@ -26,18 +32,21 @@ over-limit-requires c κs =
       (subst (Amount 100000000000000) (sym (least (c .before))) (basis-amount (s .pre .0 .limits) (s .pre .1 .0)), s .pre .1 .1),
     )
 
-over : (c : tie.After-over-limit) → let s = c .before .before .before .before in toZ w64 (ofZ w64 (c .over-limit .result)) ≡ overLimit (s .args .h .dayend) (basis (s .args .h .limits) (s .args .reference)) (s .args .multiplier)
+over : (c : tie.After-over-limit) → toZ w64 (ofZ w64 (c .over-limit .result)) ≡ overAt (c .before .before .before .before)
 over c =
     let s = c .before .before .before .before in
     told (c .over-limit .result) (c .over-limit .ok)
     ∙ c .over-limit .ensures
     ∙ ap₂ (λ t b. overLimit t b (s .args .multiplier)) (arg (amount-within (s .pre .0 .dayend)) tt .eq) (least (c .before .before))
 
-abbrev two : (c : tie.After-over-limit) → let s = c .before .before .before .before in Got 220000000000000 (basis (s .args .h .limits) (s .args .reference) +ℤ overLimit (s .args .h .dayend) (basis (s .args .h .limits) (s .args .reference)) (s .args .multiplier))
+abbrev two : (c : tie.After-over-limit)
+    → let s = c .before .before .before .before in
+    Got 220000000000000 (basisAt s +ℤ overAt s)
 two c =
     let s = c .before .before .before .before in
     let b = basis-amount (s .pre .0 .limits) (s .pre .1 .0) in
-    got (add (held (least (c .before .before)) (amount-within b)) (held (over c) (amount-within (over-amount (s .pre .0 .dayend) b (s .pre .1 .1)))))
+    let o = over-amount (s .pre .0 .dayend) b (s .pre .1 .1) in
+    got (add (held (least (c .before .before)) (amount-within b)) (held (over c) (amount-within o)))
 
 add-result : tie.Need-add-result
 add-result c = fits (two c .reads) tt

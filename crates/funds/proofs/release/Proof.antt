@@ -1,11 +1,11 @@
-use mathlib.Core.Path.{_≡_}
-use mathlib.Core.Bool.{true, false}
+use mathlib.Core.Path.{sym, ap₂, _∙_}
 use lib.IntN.{ℤ, _+ℤ_, _-ℤ_}
-use lib.Signed.{ltZ}
 use Rattle.whole.specs.Machine.{Got, got, arg, kept, fits, add, sub}
-use Rattle.whole.specs.Tests.{lt-is}
+use Rattle.whole.specs.Tests.{lt-yes, lt-no}
 use Rattle.whole.specs.Amounts.{amount-within}
-use Rattle.funds.specs.Funds.{released}
+use Rattle.funds.specs.Funds.{withMoney}
+use Rattle.funds.specs.FundsLaws.{released-default, released-more, released-made}
+use Rattle.funds.specs.declared.Payment.the-variants.{Made}
 use Rattle.funds.specs.BoundLaws.{cash-within, margin-within}
 use Rattle.funds.proofs.release.Statement.{statement}
 use Rattle.funds.proofs.release.Tie as tie
@@ -21,18 +21,16 @@ abbrev margin : (s : tie.Start) → Got 1970436000000000000 (s .args .f .margin 
 margin s = got (sub (arg (margin-within (s .pre .0)) tt) (arg (amount-within (s .pre .1)) tt))
 
 returns : tie.Need-returns
-unfolding released
-returns c = rw (c .if1 .taken)
+returns c = let s = c .before in sym (released-default (s .args .f) (s .args .amount) (c .if1 .taken))
 
 sub-if2 : tie.Need-sub-if2
 sub-if2 c = fits (above (c .before .before .before .before) .reads) tt
 
 returns-2 : tie.Need-returns-2
-unfolding released
 returns-2 c =
     let s = c .before .before .before .before .before in
-    let more : ltZ (s .args .f .margin -ℤ s .args .f .requirement) (s .args .amount) ≡ true = lt-is (kept (above s .reads) tt .eq) (arg (amount-within (s .pre .1)) tt .eq) (c .if2 .taken) in
-    rw (c .before .before .before .before .if1 .left, more)
+    let more = lt-yes (kept (above s .reads) tt .eq) (arg (amount-within (s .pre .1)) tt .eq) (c .if2 .taken) in
+    sym (released-more (s .args .f) (s .args .amount) (c .before .before .before .before .if1 .left) more)
 
 add-x : tie.Need-add-x
 add-x c = fits (cash (c .before .before .before .before .before .before .before) .reads) tt
@@ -41,12 +39,12 @@ sub-x : tie.Need-sub-x
 sub-x c = fits (margin (c .before .before .before .before .before .before .before) .reads) tt
 
 returns-3 : tie.Need-returns-3
-unfolding released
 returns-3 c =
     let e = c .before .before in
     let s = e .before .before .before .before .before in
-    let enough : ltZ (s .args .f .margin -ℤ s .args .f .requirement) (s .args .amount) ≡ false = lt-is (kept (above s .reads) tt .eq) (arg (amount-within (s .pre .1)) tt .eq) (e .if2 .left) in
-    rw (e .before .before .before .before .if1 .left, enough, kept (cash s .reads) tt .eq, kept (margin s .reads) tt .eq)
+    let enough = lt-no (kept (above s .reads) tt .eq) (arg (amount-within (s .pre .1)) tt .eq) (e .if2 .left) in
+    ap₂ (λ cash margin. Made (withMoney (s .args .f) cash margin)) (kept (cash s .reads) tt .eq) (kept (margin s .reads) tt .eq)
+    ∙ sym (released-made (s .args .f) (s .args .amount) (e .before .before .before .before .if1 .left) enough)
 
 pub release-spec : {M : Type 1} → statement M
 release-spec = tie.close (tie.spec returns sub-if2 returns-2 add-x sub-x returns-3)

@@ -55,8 +55,12 @@ loop-again c =
     let ps = s .args .t1 in
     let marks = s .args .t2 in
     let all = zipped carried ps marks in
-    let six : length all ≡ 6 = zipped-length carried ps marks (s .pre .0 .nets .six) (s .pre .1 .six) in (
-      ap₂ (λ a q. set a (l .row) q) (l .inv .0) (c .carried .ensures ∙ sym (zipped-at carried flat flat noMark ps marks (l .row) (omega (arith, s .pre .0 .nets .six)) (omega (arith, s .pre .1 .six))))
+    let six : length all ≡ 6 = zipped-length carried ps marks (s .pre .0 .nets .six) (s .pre .1 .six) in
+    let here =
+    zipped-at carried flat flat noMark ps marks (l .row)
+    (omega (arith, s .pre .0 .nets .six))
+    (omega (arith, s .pre .1 .six)) in (
+      ap₂ (λ a q. set a (l .row) q) (l .inv .0) (c .carried .ensures ∙ sym here)
           ∙ onto-step flat all ps (l .row) (omega arith) (omega (arith, s .pre .0 .nets .six)),
       omega arith,
     )

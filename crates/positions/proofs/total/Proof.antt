@@ -41,11 +41,18 @@ asked-requires c κs =
     let s = c .before .before .before in
     (s .pre .0 .at row, s .pre .1 .at row)
 
-abbrev sum : (c : tie.After-asked Inv-loop μ-loop) → let l = c .before .before .before .loop in let s = c .before .before .before .before in Got 12600000000000 (sumZ (take (l .row + 1) (zipped asked (s .args .t1) (s .args .t2))))
+abbrev sum : (c : tie.After-asked Inv-loop μ-loop)
+    → let l = c .before .before .before .loop in
+    let s = c .before .before .before .before in
+    Got 12600000000000 (sumZ (take (l .row + 1) (zipped asked (s .args .t1) (s .args .t2))))
 sum c =
     let l = c .before .before .before .loop in
     let s = c .before .before .before .before in
-    got (row-more asked 0 (s .args .t1) (s .args .t2) (s .pre .0 .six) (s .pre .1 .six) (l .row) (asked-each (s .pre .0) (s .pre .1)) tt (omega arith) (l .inv .0) (c .asked .ensures))
+    got
+    (row-more asked 0 (s .args .t1) (s .args .t2) (s .pre .0 .six) (s .pre .1 .six) (l .row) (asked-each (s .pre .0) (s .pre .1)) tt
+    (omega arith)
+    (l .inv .0)
+    (c .asked .ensures))
 
 add-sum : tie.Need-add-sum Inv-loop μ-loop
 add-sum c = fits (sum c .reads) tt
@@ -64,7 +71,8 @@ unfolding total
 returns c =
     let l = c .before .loop in
     let s = c .before .before in
-    l .inv .0 ∙ rows-all asked 0 (s .args .t1) (s .args .t2) (s .pre .0 .six) (s .pre .1 .six) (l .row) (omega (arith, c .loop-test .left))
+    l .inv .0
+    ∙ rows-all asked 0 (s .args .t1) (s .args .t2) (s .pre .0 .six) (s .pre .1 .six) (l .row) (omega (arith, c .loop-test .left))
 
 pub total-spec : {M : Type 1} → statement M
 total-spec =

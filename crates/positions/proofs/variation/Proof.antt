@@ -42,11 +42,18 @@ variation-at-requires c κs =
     let s = c .before .before .before .before in
     (modest-at (s .pre .0) row, s .pre .1 .at row)
 
-abbrev sum : (c : tie.After-variation-at Inv-loop μ-loop) → let l = c .before .before .before .before .loop in let s = c .before .before .before .before .before in Got 1506000000000000 (sumZ (take (l .row + 1) (zipped variationAt (s .args .t1) (s .args .t2))))
+abbrev sum : (c : tie.After-variation-at Inv-loop μ-loop)
+    → let l = c .before .before .before .before .loop in
+    let s = c .before .before .before .before .before in
+    Got 1506000000000000 (sumZ (take (l .row + 1) (zipped variationAt (s .args .t1) (s .args .t2))))
 sum c =
     let l = c .before .before .before .before .loop in
     let s = c .before .before .before .before .before in
-    got (row-more variationAt noMark (s .args .t1) (s .args .t2) (s .pre .0 .nets .six) (s .pre .1 .six) (l .row) (variation-each (s .pre .0) (s .pre .1)) tt (omega arith) (l .inv .0) (c .variation-at .ensures))
+    got
+    (row-more variationAt noMark (s .args .t1) (s .args .t2) (s .pre .0 .nets .six) (s .pre .1 .six) (l .row) (variation-each (s .pre .0) (s .pre .1)) tt
+    (omega arith)
+    (l .inv .0)
+    (c .variation-at .ensures))
 
 add-sum : tie.Need-add-sum Inv-loop μ-loop
 add-sum c = fits (sum c .reads) tt
@@ -65,7 +72,8 @@ unfolding variation
 returns c =
     let l = c .before .loop in
     let s = c .before .before in
-    l .inv .0 ∙ rows-all variationAt noMark (s .args .t1) (s .args .t2) (s .pre .0 .nets .six) (s .pre .1 .six) (l .row) (omega (arith, c .loop-test .left))
+    l .inv .0
+    ∙ rows-all variationAt noMark (s .args .t1) (s .args .t2) (s .pre .0 .nets .six) (s .pre .1 .six) (l .row) (omega (arith, c .loop-test .left))
 
 pub variation-spec : {M : Type 1} → statement M
 variation-spec =

@@ -12,7 +12,8 @@ lots s = got (sub (arg (s .pre .0 .net) tt) (arg (s .pre .0 .before) tt))
 abbrev worth : (s : tie.Start) → Got 4000000000 ((s .args .p .net -ℤ s .args .p .before) *ℤ s .args .m .rate)
 worth s = got (mul (kept (lots s .reads) tt) (arg (s .pre .1 .rate) tt))
 
-abbrev today : (s : tie.Start) → Got 1004000000000 ((s .args .p .net -ℤ s .args .p .before) *ℤ s .args .m .rate -ℤ s .args .p .cost)
+abbrev today : (s : tie.Start)
+    → Got 1004000000000 ((s .args .p .net -ℤ s .args .p .before) *ℤ s .args .m .rate -ℤ s .args .p .cost)
 today s = got (sub (kept (worth s .reads) tt) (arg (s .pre .0 .cost) tt))
 
 abbrev move : (s : tie.Start) → Got 200000 (s .args .m .rate -ℤ s .args .m .previous)
@@ -21,7 +22,10 @@ move s = got (sub (arg (s .pre .1 .rate) tt) (arg (s .pre .1 .previous) tt))
 abbrev held : (s : tie.Start) → Got 4000000000 (s .args .p .before *ℤ (s .args .m .rate -ℤ s .args .m .previous))
 held s = got (mul (arg (s .pre .0 .before) tt) (kept (move s .reads) tt))
 
-abbrev both : (s : tie.Start) → Got 1008000000000 (((s .args .p .net -ℤ s .args .p .before) *ℤ s .args .m .rate -ℤ s .args .p .cost) +ℤ s .args .p .before *ℤ (s .args .m .rate -ℤ s .args .m .previous))
+abbrev both : (s : tie.Start)
+    → let p = s .args .p in
+    let m = s .args .m in
+    Got 1008000000000 (((p .net -ℤ p .before) *ℤ m .rate -ℤ p .cost) +ℤ p .before *ℤ (m .rate -ℤ m .previous))
 both s = got (add (kept (today s .reads) tt) (kept (held s .reads) tt))
 
 sub-today : tie.Need-sub-today
