@@ -17,7 +17,7 @@ use Rattle.closing.specs.declared.DayEnd.{DayEnd}
 use Rattle.funds.specs.Funds.{billed, settled}
 use Rattle.funds.specs.FundsLaws.{worth, billed-worth, settled-paid, settled-unpaid}
 use Rattle.funds.specs.declared.Settlement.{Settlement}
-use Rattle.accounts.specs.Accounts.{closed, refreshed}
+use Rattle.accounts.specs.Accounts.{closed, withHoldings, refreshed}
 use Rattle.accounts.specs.declared.Account.{Account}
 
 module _ (d : DayEnd) (a : Account) where
@@ -95,6 +95,18 @@ module _ (d : DayEnd) (a : Account) where
       let h = atClose d (a .holdings) in
       ap (λ o. (base +ℤ o) +ℤ h .special) (over-none (h .dayend) base (d .multiplier) within)
       ∙ ap (λ z. z +ℤ h .special) (+ℤ-idr base)
+
+-- ---- refresh
+-- Document 01, Refresh: "for accounts not in default".
+module _ (reference : ℕ) (a : Account) where
+  pub refreshed-default : a .funds .flag ≡ true → refreshed reference a ≡ a
+  unfolding refreshed
+  refreshed-default set = rw set
+
+  pub refreshed-clear : a .funds .flag ≡ false
+      → refreshed reference a ≡ withHoldings a (withCore (a .holdings) (fullCore (a .holdings) reference))
+  unfolding refreshed
+  refreshed-clear clear = rw clear
 
 -- A refresh changes no money.
 pub refreshed-worth : (reference : ℕ) (a : Account) → worth (refreshed reference a .funds) ≡ worth (a .funds)

@@ -136,10 +136,10 @@ pub fn variation(positions: [Position; 6], marks: [Mark; 6]) -> i64
 fn carried(p: Position, m: Mark) -> Position
     ensures { λ r. ⌜ r ≡ carried p m ⌝ }
 {
+    let net = p.net;
     if m.ending {
         return overnight(0);
     }
-    let net = p.net;
     overnight(net)
 }
 

@@ -18,8 +18,8 @@ returns-2 : tie.Need-returns-2
 returns-2 c =
     let s = c .before .before .before in
     c .overnight2 .ensures
-    ∙ ap overnight (told (s .args .p .net) (c .before .struct-told .given .1 .0 .1))
-    ∙ rw (c .before .before .if1 .left)
+    ∙ ap overnight (told (s .args .p .net) (c .before .before .struct-told .given .1 .0 .1))
+    ∙ rw (c .before .if1 .left)
 
 pub carried-spec : {M : Type 1} → statement M
 carried-spec = tie.close (tie.spec overnight-requires returns overnight-requires-2 returns-2)
