@@ -92,12 +92,13 @@ variation-each {ps} {marks} k r = record {
       (λ i. let p = modest-at k i in variation-at-within (p .before) (p .net) (p .cost) (r .at i));
 }
 
-pub variation-within : {trades : ℕ} {ps : List Position} {marks : List Mark} → Kept trades ps → PricedAll marks
-    → Within (dayMost (trades * 100000000)) (variation ps marks)
+-- by the costs that the account has itself, so that the sum over accounts is bounded by all costs
+pub variation-most : {trades : ℕ} {ps : List Position} {marks : List Mark} → Kept trades ps → PricedAll marks
+    → Within (dayMost (costs ps)) (variation ps marks)
 unfolding variation zipped sizes
-variation-within {trades} {ps} {marks} k r = record {
+variation-most {trades} {ps} {marks} k r = record {
   size = le-trans (sum-sizes (zipped variationAt ps marks))
-      (omega (arith, all ps marks (k .befores) (k .nets .at) (r .at), k .nets .six, k .costs));
+      (omega (arith, all ps marks (k .befores) (k .nets .at) (r .at), k .nets .six));
 }
   where
     all : (ps : List Position) (marks : List Mark)
@@ -109,6 +110,10 @@ variation-within {trades} {ps} {marks} k r = record {
     all (p ∷ ps) (m ∷ marks) b n r =
         let here = variation-at-within {c = natAbs (p .cost)} {p = p} {m = m} (b 0) (n 0) (lit (p .cost)) (r 0) in
         omega (arith, here .size, all ps marks (λ i. b (suc i)) (λ i. n (suc i)) (λ i. r (suc i)))
+
+pub variation-within : {trades : ℕ} {ps : List Position} {marks : List Mark} → Kept trades ps → PricedAll marks
+    → Within (dayMost (trades * 100000000)) (variation ps marks)
+variation-within k r = widen (variation-most k r) (omega (arith, k .costs))
 
 -- ---- kept
 pub none-kept : Kept 0 (replicate 6 flat)
