@@ -19,6 +19,11 @@ pub new-sound : {l : Limits} {reference : ℕ} (number : ℕ) → Granted l → 
     → Sound 0 0 (newAccount number l reference)
 new-sound number g r = record { holdings = holds.new-sound g r; funds = has.new-sound }
 
+-- more trades and days allow more
+pub sound-later : {trades more days later : ℕ} {a : Account} → Sound trades days a → trades ≤ more → days ≤ later
+    → Sound more later a
+sound-later s t d = record { holdings = holds.sound-wider (s .holdings) t; funds = has.sound-later (s .funds) d }
+
 -- ---- close
 module _ {trades days : ℕ} {a : Account} {d : DayEnd} (s : Sound trades days a) (few : trades ≤ 10000) (g : GoodDayEnd d) where
   left : holdings.Sound 0 (atClose d (a .holdings))

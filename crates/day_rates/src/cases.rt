@@ -3,8 +3,8 @@ ghost use mathlib.Core.Path.{_≡_};
 ghost use mathlib.Core.Bool.{true};
 ghost use Rattle.whole.specs.Within.{Within};
 ghost use Rattle.day_rates.specs.Cases.{InRange};
-use crate::lines::Numbers;
-use crate::lines::read_numbers;
+use figures::Numbers;
+use figures::read_numbers;
 
 // A trade or a quote is given some times over.
 pub(crate) enum Case {
@@ -67,7 +67,7 @@ fn is_times(number: u64) -> bool {
 }
 
 // A trade of four numbers.
-fn trade_of(values: [i64; 4]) -> Case
+fn trade_of(values: [i64; 6]) -> Case
     ensures { λ r. ⌜ InRange r ⌝ }
 {
     let time = natural(values[0]);
@@ -98,7 +98,7 @@ fn trade_of(values: [i64; 4]) -> Case
 }
 
 // A quote of four numbers.
-fn quote_of(values: [i64; 4]) -> Case
+fn quote_of(values: [i64; 6]) -> Case
     ensures { λ r. ⌜ InRange r ⌝ }
 {
     let time = natural(values[0]);
@@ -126,7 +126,7 @@ fn quote_of(values: [i64; 4]) -> Case
 }
 
 // A settlement of three numbers.
-fn settlement_of(values: [i64; 4]) -> Case
+fn settlement_of(values: [i64; 6]) -> Case
     ensures { λ r. ⌜ InRange r ⌝ }
 {
     let previous = values[0];

@@ -3,7 +3,6 @@
 // document 01, and a run is compared with them.
 mod cases;
 mod days;
-mod lines;
 
 use days::Answer;
 use libc::STDIN_FILENO;

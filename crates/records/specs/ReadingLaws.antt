@@ -5,8 +5,8 @@ use mathlib.Core.List.{List, [], _∷_, _++_, append-assoc}
 use Prim.Native.Nat.{ℕ, zero, suc, _+_, _-_, _≤_, _<_, _^_}
 use native.Mathlib.Omega.{arith}
 use lib.Dec.{ltb}
-use lib.ListN.{length, getD, take, drop, set, replicate, length-append, length-drop, drop-of-length-le}
-use lib.Seq.{drop-drop, drop-append-seam, set-at, append-snoc, take-all}
+use lib.ListN.{length, getD, drop, set, replicate, length-append, length-drop, drop-of-length-le}
+use lib.Seq.{drop-drop, drop-append-seam, set-at, append-snoc}
 use borrow.Author.Tests.{lt-ltb, le-ltb}
 use Rattle.numbers.specs.Below.{Small, below-drop, below-right}
 use Rattle.numbers.specs.Seven.{none, unbounded, encode, decode}
@@ -98,9 +98,6 @@ past-end s at h = rw (drop-of-length-le s h)
 
 pub rest-none : (s : List ℕ) (p : ℕ) → length s ≤ p → readingAt (drop p s) 0 ≡ malformedAt 0
 rest-none s p h = past-end (drop p s) 0 (omega (arith, length-drop p s))
-
-pub rest-all : (s : List ℕ) (p : ℕ) → take (length s - p) (drop p s) ≡ drop p s
-rest-all s p = take-all (length s - p) (drop p s) (rw (length-drop p s) (omega arith))
 
 -- ---- what the places mean
 -- a record in the bytes s from a place on: next is the place after it, and its exceptions have a place of their own

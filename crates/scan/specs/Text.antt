@@ -17,16 +17,16 @@ before p (x ∷ xs) = cond (p x) 0 (suc (before p xs))
 abbrev pub firstFrom : (ℕ → Bool) → List ℕ → ℕ → ℕ
 firstFrom p text from = from + before p (drop from text)
 
--- A line ends at a line feed.
-abbrev pub isFeed : ℕ → Bool
-isFeed byte = eqb byte 10
+abbrev pub byteEnd : ℕ → List ℕ → ℕ → ℕ
+byteEnd byte = firstFrom (λ b. eqb b byte)
 
 -- The digits 0 to 9 are the bytes 48 to 57.
 abbrev pub isDigit : ℕ → Bool
 isDigit byte = leb 48 byte && leb byte 57
 
+-- A line ends at a line feed.
 abbrev pub lineEnd : List ℕ → ℕ → ℕ
-lineEnd = firstFrom isFeed
+lineEnd = byteEnd 10
 
 abbrev pub digitsEnd : List ℕ → ℕ → ℕ
 digitsEnd = firstFrom (λ byte. not (isDigit byte))

@@ -2,7 +2,7 @@
 ghost use mathlib.Core.Path.{_≡_};
 ghost use Prim.Native.Nat.{_≤_, max};
 ghost use lib.ListN.{length};
-ghost use Rattle.scan.specs.Text.{isDigit, lineEnd, digitsEnd, numberIn};
+ghost use Rattle.scan.specs.Text.{isDigit, byteEnd, lineEnd, digitsEnd, numberIn};
 
 // A number of 64 bits, or that the bytes stand for none.
 pub enum Number {
@@ -15,19 +15,26 @@ const LARGEST: u64 = 18446744073709551615;
 
 const TENTH: u64 = 1844674407370955161;
 
-// The place of the first line feed from a place on, or the end.
+// The place of the first such byte from a place on, or the end.
 // That it lies between the place and the end follows, and is said for callers.
-pub fn line_end(text: &[u8], from: usize) -> usize
-    ensures { λ r. ⌜ (r ≡ lineEnd (now (text .entry)) from) × (from ≤ r) × (r ≤ max from (length (now (text .entry)))) ⌝ }
+pub fn byte_end(text: &[u8], from: usize, byte: u8) -> usize
+    ensures { λ r. ⌜ (r ≡ byteEnd byte (now (text .entry)) from) × (from ≤ r) × (r ≤ max from (length (now (text .entry)))) ⌝ }
 {
     let mut at = from;
     while at < text.len() {
-        if text[at] == b'\n' {
+        if text[at] == byte {
             return at;
         }
         at += 1;
     }
     at
+}
+
+// The place of the first line feed from a place on, or the end.
+pub fn line_end(text: &[u8], from: usize) -> usize
+    ensures { λ r. ⌜ (r ≡ lineEnd (now (text .entry)) from) × (from ≤ r) × (r ≤ max from (length (now (text .entry)))) ⌝ }
+{
+    byte_end(text, from, b'\n')
 }
 
 // Whether a byte is a decimal digit.

@@ -4,8 +4,9 @@ use mathlib.Core.List.{List}
 use Prim.Native.Nat.{ℕ}
 use native.Mathlib.Omega.{arith}
 use borrow.Author.Needs.{needs}
+use Rattle.lists.specs.Parts.{part-rest}
 use Rattle.records.specs.Reading.{readingAt}
-use Rattle.records.specs.ReadingLaws.{rest-none, rest-all}
+use Rattle.records.specs.ReadingLaws.{rest-none}
 use Rattle.records.proofs.read_rest.Statement.{statement}
 use Rattle.records.proofs.read_rest.Tie as tie
 
@@ -28,7 +29,7 @@ read-record-requires : tie.Need-read-record-requires
 read-record-requires c κs = search needs
 
 returns-2 : tie.Need-returns-2
-returns-2 c = let a = c .before .before .before .before .args in c .read-record .ensures ∙ ap (λ (l : List ℕ). readingAt l 0) (rest-all (a .bytes .now) (a .next))
+returns-2 c = let a = c .before .before .before .before .args in c .read-record .ensures ∙ ap (λ (l : List ℕ). readingAt l 0) (part-rest (a .next) (a .bytes .now))
 
 pub read-rest-spec : {M : Type 1} → statement M
 read-rest-spec =

@@ -1,0 +1,4 @@
+pub mod Figures
+pub mod FigureLaws
+pub mod Lines
+pub mod LineLaws
