@@ -25,17 +25,16 @@ line all numbers are the least that there are. An empty line and a line with `#`
 and ends the run.
 """
 import re
-import sys
 from collections import Counter
 from copy import deepcopy
 from fractions import Fraction
 from math import ceil
-from pathlib import Path
 from random import Random
 from typing import NamedTuple
 
-# The three other scripts of this folder.
+# Of this folder.
 import rates
+from cases import all_agree, event_files, run
 from rates import records_in, verdicts_in
 from records import is_within
 
@@ -301,14 +300,6 @@ def answers(lines):
             return
 
 
-# A line ends with a line feed and nothing else, and a number may have any number of digits.
-def print_answers():
-    sys.set_int_max_str_digits(0)
-    text = sys.stdin.buffer.read().decode('latin-1')
-    for answer in answers(text.removesuffix('\n').split('\n')):
-        print(answer)
-
-
 # ---- event files
 
 # The refusals that accounts give.
@@ -438,8 +429,8 @@ def replayed(data, output):
 
 # The book and the pairs of each file of a folder, with the file's name.
 def replayed_files(folder):
-    for events in sorted(Path(folder).glob('*.events')):
-        yield events.stem, *replayed(events.read_bytes(), events.with_suffix('.expected').read_text())
+    for name, data, output in event_files(folder):
+        yield name, *replayed(data, output)
 
 
 # What an agreement is counted under: the line's first word, or the refusal.
@@ -448,20 +439,10 @@ def heading(line):
     return first if first.isalpha() else f'refusal {second}' if second != '0' else 'accepted'
 
 
-# Whether all agree.
 def check_vectors(folder):
-    agreeing, differing = Counter(), 0
-    for name, _, pairs in replayed_files(folder):
-        for printed, line in pairs:
-            if printed == line:
-                agreeing[heading(line)] += 1
-            else:
-                differing += 1
-                print(f'{name}: printed "{printed}", should be "{line}"')
-    for head, count in sorted(agreeing.items()):
-        print(f'{head}: {count} agree')
-    print(f'{agreeing.total()} agree, {differing} differ')
-    return differing == 0
+    return all_agree(
+        (name, heading(line), printed, line) for name, _, pairs in replayed_files(folder) for printed, line in pairs
+    )
 
 
 def print_cases(folder):
@@ -795,18 +776,5 @@ def make_cases():
     print('\n'.join(needed(lines)))
 
 
-def main():
-    if sys.argv[1:] == []:
-        print_answers()
-    elif sys.argv[1:] == ['make']:
-        make_cases()
-    elif sys.argv[1:2] == ['vectors'] and len(sys.argv) == 3:
-        sys.exit(0 if check_vectors(sys.argv[2]) else 1)
-    elif sys.argv[1:2] == ['cases'] and len(sys.argv) == 3:
-        print_cases(sys.argv[2])
-    else:
-        sys.exit(__doc__)
-
-
 if __name__ == '__main__':
-    main()
+    run(__doc__, answers, make_cases, check_vectors, print_cases)

@@ -17,16 +17,14 @@ A settlement prints the rate, the rule and the count used. A line with a number 
 and changes nothing. An empty line and a line with `#` are skipped. Any other line prints `bad input` and ends the run.
 """
 import re
-import sys
-from collections import Counter
 from datetime import timedelta
 from fractions import Fraction
-from pathlib import Path
 from random import Random
 from typing import NamedTuple
 
-# The two other scripts of this folder.
+# Of this folder.
 from calendar import FIRST, Calendar, code_of, number_of
+from cases import all_agree, event_files, run
 from records import Malformed, is_within, read_record, values_of
 
 # "Trades in a day; last-hour quotes, contract and side, in a day: 0 to 10,000."
@@ -157,14 +155,6 @@ def answers(lines):
             yield answer
 
 
-# A line ends with a line feed and nothing else, and a number may have any number of digits.
-def print_answers():
-    sys.set_int_max_str_digits(0)
-    text = sys.stdin.buffer.read().decode('latin-1')
-    for answer in answers(text.removesuffix('\n').split('\n')):
-        print(answer)
-
-
 # ---- event files
 
 # A contract's settlement at a close: its day, what `settled` is to be given, and the line that the file's output has.
@@ -248,26 +238,20 @@ def closings(data, output):
 
 # The settlements of each file of a folder, with the file's name.
 def closings_of(folder):
-    for events in sorted(Path(folder).glob('*.events')):
-        for closing in closings(events.read_bytes(), events.with_suffix('.expected').read_text()):
-            yield events.stem, closing
+    for name, data, output in event_files(folder):
+        for closing in closings(data, output):
+            yield name, closing
 
 
-# Whether all agree.
+# The line of a settlement, under its rule, beside the line that the file should give.
+def compared(name, closing):
+    settled = closing.settled()
+    line = ' '.join(map(str, ['rate', closing.code, *settled]))
+    return name, f'rule {settled.rule}', closing.printed, line
+
+
 def check_vectors(folder):
-    agreeing, differing = Counter(), 0
-    for name, closing in closings_of(folder):
-        settled = closing.settled()
-        line = ' '.join(map(str, ['rate', closing.code, *settled]))
-        if line == closing.printed:
-            agreeing[settled.rule] += 1
-        else:
-            differing += 1
-            print(f'{name}: printed "{closing.printed}", should be "{line}"')
-    for rule, count in sorted(agreeing.items()):
-        print(f'rule {rule}: {count} agree')
-    print(f'{agreeing.total()} agree, {differing} differ')
-    return differing == 0
+    return all_agree(compared(name, closing) for name, closing in closings_of(folder))
 
 
 def print_cases(folder):
@@ -533,18 +517,5 @@ def make_cases():
     print(settle())
 
 
-def main():
-    if sys.argv[1:] == []:
-        print_answers()
-    elif sys.argv[1:] == ['make']:
-        make_cases()
-    elif sys.argv[1:2] == ['vectors'] and len(sys.argv) == 3:
-        sys.exit(0 if check_vectors(sys.argv[2]) else 1)
-    elif sys.argv[1:2] == ['cases'] and len(sys.argv) == 3:
-        print_cases(sys.argv[2])
-    else:
-        sys.exit(__doc__)
-
-
 if __name__ == '__main__':
-    main()
+    run(__doc__, answers, make_cases, check_vectors, print_cases)

@@ -3,6 +3,7 @@ use mathlib.Core.Path.{_≡_, refl, sym, ap, _∙_}
 use mathlib.Core.List.{List, [], _∷_}
 use Prim.Native.Nat.{ℕ, zero, suc, _<_}
 use native.Mathlib.Nat.{not-suc-le-zero, le-of-suc-le-suc, suc-inj}
+use native.Mathlib.Omega.{arith}
 use lib.ListN.{length, getD, set}
 
 unfoldable pub zipped : {X Y Z : Type 0} → (X → Y → Z) → List X → List Y → List Z
@@ -20,6 +21,15 @@ module _ {X Y Z : Type 0} (f : X → Y → Z) where
 
   pub zipped-length : {n : ℕ} (xs : List X) (ys : List Y) → length xs ≡ n → length ys ≡ n → length (zipped f xs ys) ≡ n
   zipped-length xs ys p q = as-long xs ys (p ∙ sym q) ∙ p
+
+  -- a place in both lists
+  pub zipped-inside : (xs : List X) (ys : List Y) (i : ℕ) → i < length xs → i < length ys → i < length (zipped f xs ys)
+  unfolding zipped
+  zipped-inside [] ys i h k = h
+  zipped-inside (x ∷ xs) [] i h k = k
+  zipped-inside (x ∷ xs) (y ∷ ys) zero h k = omega arith
+  zipped-inside (x ∷ xs) (y ∷ ys) (suc i) h k =
+      omega (arith, zipped-inside xs ys i (le-of-suc-le-suc h) (le-of-suc-le-suc k))
 
   -- at a place
   pub zipped-at : (z : Z) (x₀ : X) (y₀ : Y) (xs : List X) (ys : List Y) (i : ℕ) → i < length xs → i < length ys

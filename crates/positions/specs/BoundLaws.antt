@@ -14,14 +14,16 @@ use Rattle.lists.specs.Rows.{map-set}
 use Rattle.lists.specs.Zipped.{zipped, zipped-length, zipped-keeps}
 use Rattle.whole.specs.Parts.{parts₄, ring, zarith}
 use Rattle.whole.specs.Expand.{expand}
-use Rattle.whole.specs.Within.{Within, Each, within-+, within--, within-*, widen, wider, lit}
-use Rattle.whole.specs.Sums.{sumZ}
+use Rattle.whole.specs.Within.{Within, Each, within-most, within-+, within--, within-*, widen, wider, lit}
+use Rattle.whole.specs.Sums.{sumZ, sum-within}
 use Rattle.whole.specs.Sizes.{sizes, sum-sizes, sizes-at, sizes-set}
-use Rattle.whole.specs.Amounts.{Amount, amount-pos, amount-+, amount-widen}
+use Rattle.whole.specs.Amounts.{Amount}
 use Rattle.positions.specs.Deals.{overnight, flat, dealt, withDeal}
 use Rattle.positions.specs.Totals.{asked, total, isBeyond}
 use Rattle.positions.specs.Variation.{variationAt, variation}
 use Rattle.positions.specs.Carried.{carried, allCarried}
+use Rattle.positions.specs.Rows.{rows-all}
+use Rattle.positions.specs.TotalLaws.{total-nonneg}
 use Rattle.positions.specs.Bounds.{Margins, Priced, noMark, PricedAll, Nets, costs, Kept, Modest, dayMost}
 use Rattle.positions.specs.declared.Position.{Position}
 use Rattle.positions.specs.declared.Mark.{Mark}
@@ -51,20 +53,12 @@ asked-each {most} {ps} {margins} n m = record {
 
 pub total-amount : {most : ℕ} {ps : List Position} {margins : List ℕ} → Nets most ps → Margins margins
     → Amount (6 * (most * 100000000)) (total ps margins)
-unfolding total zipped sumZ
+unfolding total
 total-amount {most} {ps} {margins} n m =
-    subst (λ k. Amount (k * (most * 100000000)) (sumZ (zipped asked ps margins))) (n .six) (go ps margins (n .at) (m .at))
-  where
-    go : (ps : List Position) (margins : List ℕ)
-        → ((i : ℕ) → Within most (getD ps i flat .net)) → ((i : ℕ) → getD margins i 0 ≤ 100000000)
-        → Amount (length ps * (most * 100000000)) (sumZ (zipped asked ps margins))
-    go [] margins h k = amount-pos 0 (omega arith)
-    go (p ∷ ps) [] h k = amount-pos 0 (omega arith)
-    go (p ∷ ps) (m ∷ margins) h k =
-        amount-widen
-        (amount-+ (amount-pos (natAbs (p .net) * m) (mul-le-mul (h 0 .size) (k 0)))
-        (go ps margins (λ i. h (suc i)) (λ i. k (suc i))))
-        (omega arith)
+    let all = zipped asked ps margins in
+    let six = rows-all asked 0 ps margins (n .six) (m .six) 6 (omega arith) in
+    let size = subst (Within (6 * (most * 100000000))) six (sum-within all 6 (asked-each n m)) in
+    record { least = total-nonneg ps margins; most = within-most (sumZ all) size }
 
 -- ---- variation
 -- The net at the new rate, less the net before today at the old one, less today's cost.

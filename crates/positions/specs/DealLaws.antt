@@ -1,7 +1,7 @@
 -- What is kept of a day's deals grows deal by deal, and adds up.
 use mathlib.Core.Path.{_≡_}
 use mathlib.Core.List.{List, [], _∷_, _++_, map}
-use lib.IntN.{ℤ, pos, _+ℤ_, _*ℤ_, +ℤ-idr, +ℤ-assoc}
+use lib.IntN.{ℤ, _+ℤ_, _*ℤ_, +ℤ-idr, +ℤ-assoc}
 use Rattle.lists.specs.Rows.{map-append}
 use Rattle.whole.specs.Sums.{sumZ, sum-append}
 use Rattle.positions.specs.Deals.{Deal, lotsOf, costOf, positionOf, overnight, dealt}

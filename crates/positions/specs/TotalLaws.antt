@@ -2,12 +2,12 @@
 use mathlib.Core.Path.{_≡_, refl, ap, _∙_}
 use mathlib.Core.List.{List, [], _∷_}
 use Prim.Native.Nat.{ℕ, zero, suc, _+_, _*_, _≤_, _<_}
-use native.Mathlib.Nat.{le-refl, le-of-suc-le-suc, suc-inj, add-mul, mul-le-mul-right}
+use native.Mathlib.Nat.{le-refl, suc-inj, add-mul, mul-le-mul-right}
 use native.Mathlib.Omega.{arith}
 use lib.ListN.{length, getD, set, replicate, length-set}
 use lib.IntN.{ℤ, pos, natAbs, _+ℤ_, _-ℤ_}
 use lib.Signed.{_≤ℤ_, ≤ℤ-refl}
-use Rattle.lists.specs.Zipped.{zipped, zipped-at, zipped-set}
+use Rattle.lists.specs.Zipped.{zipped, zipped-inside, zipped-at, zipped-set}
 use Rattle.whole.specs.Parts.{parts₁, parts₂, ring, zarith}
 use Rattle.whole.specs.Order.{pos-nonneg, +ℤ-mono}
 use Rattle.whole.specs.Within.{natAbs-+}
@@ -47,15 +47,6 @@ total-nonneg (p ∷ ps) [] = ≤ℤ-refl (pos 0)
 total-nonneg (p ∷ ps) (margin ∷ margins) = +ℤ-mono (pos-nonneg (natAbs (p .net) * margin)) (total-nonneg ps margins)
 
 -- ---- one position changed
-asked-at : (ps : List Position) (margins : List ℕ) (row : ℕ) → row < length ps → row < length margins
-    → row < length (zipped asked ps margins)
-unfolding zipped
-asked-at [] margins row h k = h
-asked-at (p ∷ ps) [] row h k = k
-asked-at (p ∷ ps) (margin ∷ margins) zero h k = omega arith
-asked-at (p ∷ ps) (margin ∷ margins) (suc row) h k =
-    omega (arith, asked-at ps margins row (le-of-suc-le-suc h) (le-of-suc-le-suc k))
-
 module _ (ps : List Position) (margins : List ℕ) (row : ℕ) (h : row < length ps) (k : row < length margins) where
   pub total-set : (q : Position)
       → total (set ps row q) margins
@@ -64,7 +55,7 @@ module _ (ps : List Position) (margins : List ℕ) (row : ℕ) (h : row < length
   total-set q =
       let margin = getD margins row 0 in
       ap sumZ (zipped-set asked 0 ps margins row q k)
-      ∙ sum-set (zipped asked ps margins) row (asked q margin) (asked-at ps margins row h k)
+      ∙ sum-set (zipped asked ps margins) row (asked q margin) (zipped-inside asked ps margins row h k)
       ∙ ap (λ t. sumZ (zipped asked ps margins) +ℤ (asked q margin -ℤ t)) (zipped-at asked (pos 0) flat 0 ps margins row h k)
 
   pub total-dealt : (lots rate : ℤ)
