@@ -40,7 +40,7 @@ module _ (d : DayEnd) (a : Account) where
   unfolding closed atClose
   closed-worth = billed-worth (a .funds) booked (requirement (atClose d (a .holdings)) (d .reference) (d .multiplier))
 
-  closed-due : ended .funds .due ≡ a .funds .due +ℤ booked
+  pub closed-due : ended .funds .due ≡ a .funds .due +ℤ booked
   unfolding closed atClose billed
   closed-due = refl
 

@@ -56,6 +56,11 @@ workingBefore w d = lastWorking w (min d days)
 
 -- ---- the whole calendar
 
+-- whether an answer is that day
+abbrev pub isOn : ℕ → Day → Bool
+isOn d (On e) = eqb d e
+isOn d NoDay = false
+
 abbrev pub isNoDay : Day → Bool
 isNoDay (On d) = false
 isNoDay NoDay = true

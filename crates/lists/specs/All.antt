@@ -32,6 +32,11 @@ module _ {X : Type 0} {P : X → Type 0} where
   all-split [] a = (none-left, a)
   all-split (x ∷ xs) (and-more p a) = let b = all-split xs a in (and-more p (b .0), b .1)
 
+-- one more at the end
+pub all-last : {X : Type 0} {P : X → Type 0} (xs : List X) {x : X} → All P xs → P x → All P (xs ++ (x ∷ []))
+all-last [] a p = and-more p none-left
+all-last (y ∷ xs) (and-more q a) p = and-more q (all-last xs a p)
+
 pub all-map : {X Y : Type 0} {P : Y → Type 0} (f : X → Y) (xs : List X) → All P (map f xs) → All (λ x. P (f x)) xs
 all-map f [] none-left = none-left
 all-map f (x ∷ xs) (and-more p a) = and-more p (all-map f xs a)

@@ -1,7 +1,7 @@
 -- What holds of a choice, of a search's outcome and of each element of a list after a store, from what holds of the parts.
 use mathlib.Core.Path.{_≡_, refl}
 use mathlib.Core.Bool.{Bool, true, false, cond}
-use mathlib.Core.List.{List, [], _∷_, _++_}
+use mathlib.Core.List.{List, [], _∷_, _++_, map}
 use Prim.Native.Nat.{ℕ, zero, suc}
 use lib.ListN.{getD, set, replicate}
 use Rattle.lists.specs.declared.Found.{Found}
@@ -33,3 +33,11 @@ more-keeps P d [] x zero z p q = p
 more-keeps P d [] x (suc n) z p q = z
 more-keeps P d (y ∷ l) x zero z p q = q
 more-keeps P d (y ∷ l) x (suc n) z p q = more-keeps P d l x n z p q
+
+pub first-keeps : {X : Type 0} (P : X → Type 0) (d x : X) (l : List X) → P x → ((n : ℕ) → P (getD l n d)) → (n : ℕ) → P (getD (x ∷ l) n d)
+first-keeps P d x l p h zero = p
+first-keeps P d x l p h (suc n) = h n
+
+pub map-keeps : {X Y : Type 0} (P : Y → Type 0) (d : Y) (f : X → Y) (l : List X) → P d → ((x : X) → P (f x)) → (n : ℕ) → P (getD (map f l) n d)
+map-keeps P d f [] z h n = z
+map-keeps P d f (x ∷ l) z h n = first-keeps P d (f x) (map f l) (h x) (map-keeps P d f l z h) n

@@ -9,3 +9,5 @@ pub mod Tabulate
 pub mod Those
 pub mod All
 pub mod Zipped
+pub mod Has
+pub mod HasLaws

@@ -1,6 +1,6 @@
 -- Two lists taken together, place by place: what a function makes of each pair.
 use mathlib.Core.Path.{_≡_, refl, sym, ap, _∙_}
-use mathlib.Core.List.{List, [], _∷_}
+use mathlib.Core.List.{List, [], _∷_, map}
 use Prim.Native.Nat.{ℕ, zero, suc, _<_}
 use native.Mathlib.Nat.{not-suc-le-zero, le-of-suc-le-suc, suc-inj}
 use native.Mathlib.Omega.{arith}
@@ -58,3 +58,9 @@ module _ {X Y Z : Type 0} (f : X → Y → Z) where
   zipped-keeps P z x₀ y₀ (x ∷ xs) [] p h i = p
   zipped-keeps P z x₀ y₀ (x ∷ xs) (y ∷ ys) p h zero = h zero
   zipped-keeps P z x₀ y₀ (x ∷ xs) (y ∷ ys) p h (suc i) = zipped-keeps P z x₀ y₀ xs ys p (λ j. h (suc j)) i
+
+-- two rows made of one list
+pub zipped-map : {W X Y Z : Type 0} (f : X → Y → Z) (g : W → X) (h : W → Y) (ws : List W) → zipped f (map g ws) (map h ws) ≡ map (λ w. f (g w) (h w)) ws
+unfolding zipped
+zipped-map f g h [] = refl
+zipped-map f g h (w ∷ ws) = ap (λ l. f (g w) (h w) ∷ l) (zipped-map f g h ws)

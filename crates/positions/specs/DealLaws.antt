@@ -1,23 +1,19 @@
 -- What is kept of a day's deals grows deal by deal, and adds up.
 use mathlib.Core.Path.{_≡_}
-use mathlib.Core.List.{List, [], _∷_, _++_, map}
+use mathlib.Core.List.{List, [], _∷_, _++_}
 use lib.IntN.{ℤ, _+ℤ_, _*ℤ_, +ℤ-idr, +ℤ-assoc}
-use Rattle.lists.specs.Rows.{map-append}
-use Rattle.whole.specs.Sums.{sumZ, sum-append}
+use Rattle.whole.specs.Sums.{sumZ}
+use Rattle.whole.specs.Over.{over-append}
 use Rattle.positions.specs.Deals.{Deal, lotsOf, costOf, positionOf, overnight, dealt}
 
 -- ---- two lists of deals
--- whatever is summed over deals
-pub sum-deals : (f : Deal → ℤ) (a b : List Deal) → sumZ (map f (a ++ b)) ≡ sumZ (map f a) +ℤ sumZ (map f b)
-sum-deals f a b = rw map-append (sum-append _ _)
-
 pub lots-append : (a b : List Deal) → lotsOf (a ++ b) ≡ lotsOf a +ℤ lotsOf b
 unfolding lotsOf
-lots-append a b = sum-deals _ a b
+lots-append a b = over-append _ a b
 
 pub cost-append : (a b : List Deal) → costOf (a ++ b) ≡ costOf a +ℤ costOf b
 unfolding costOf
-cost-append a b = sum-deals _ a b
+cost-append a b = over-append _ a b
 
 -- ---- no deal, and one more at the end
 pub position-none : (before : ℤ) → positionOf before [] ≡ overnight before

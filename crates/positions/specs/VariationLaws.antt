@@ -7,14 +7,14 @@ use Rattle.whole.specs.Ring.{add-mulℤ}
 use Rattle.whole.specs.Parts.{parts₁, parts₂, ring, zarith}
 use Rattle.whole.specs.Expand.{expand}
 use Rattle.whole.specs.Sums.{sumZ}
+use Rattle.whole.specs.Over.{over-append}
 use Rattle.positions.specs.Deals.{Deal, bought, sold, lotsOf, costOf, positionOf, flat}
-use Rattle.positions.specs.DealLaws.{sum-deals}
 use Rattle.positions.specs.Variation.{earned, variationOf, variationAt}
 use Rattle.positions.specs.declared.Position.{Position}
 use Rattle.positions.specs.declared.Mark.{Mark}
 
 -- ---- what is kept gives what the list gives
-earned-kept : (rate : ℤ) (today : List Deal)
+pub earned-kept : (rate : ℤ) (today : List Deal)
     → sumZ (map (earned rate) today) ≡ lotsOf today *ℤ rate -ℤ costOf today
 unfolding sumZ lotsOf costOf
 earned-kept rate [] = sym (ap (λ t. t -ℤ pos 0) (zero-*ℤ rate))
@@ -38,7 +38,7 @@ pub variation-append : (a b : List Deal) (x y previous rate : ℤ)
     → variationOf (a ++ b) (x +ℤ y) previous rate ≡ variationOf a x previous rate +ℤ variationOf b y previous rate
 unfolding variationOf
 variation-append a b x y previous rate =
-    rw (sum-deals (earned rate) a b)
+    rw (over-append (earned rate) a b)
     (spread (sumZ (map (earned rate) a)) (sumZ (map (earned rate) b)) x y (rate -ℤ previous))
   where
     spread : (s t x y d : ℤ)

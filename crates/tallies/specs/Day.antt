@@ -22,7 +22,7 @@ pub record Quote : Type 0 where
 -- ---- the last hour
 -- Document 01, Settlement rate: "last hour is 15:30:00 up to, not including, 16:30:00". Times are seconds of the day.
 
-abbrev clock : ℕ → ℕ → ℕ
+abbrev pub clock : ℕ → ℕ → ℕ
 clock hour minute = 3600 * hour + 60 * minute
 
 abbrev pub windowStart : ℕ

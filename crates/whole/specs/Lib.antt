@@ -11,3 +11,4 @@ pub mod Larger
 pub mod Amounts
 pub mod Round
 pub mod RoundLaws
+pub mod Over

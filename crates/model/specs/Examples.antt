@@ -1,0 +1,279 @@
+-- Document 01's printed day and its twelve marked examples, computed.
+use mathlib.Core.Path.{_≡_, refl, sym}
+use mathlib.Core.Bool.{true, false}
+use mathlib.Core.List.{List, [], _∷_, _++_, map}
+use Prim.Native.Nat.{ℕ}
+use native.Mathlib.Omega.{arith}
+use lib.IntN.{ℤ, pos, negℤ}
+use Rattle.lists.specs.Has.{has, placeOf}
+use Rattle.lists.specs.Passing.{all}
+use Rattle.lists.specs.Zipped.{zipped}
+use Rattle.lists.specs.Those.{those}
+use Rattle.whole.specs.Sums.{sumZ}
+use Rattle.whole.specs.Larger.{larger}
+use Rattle.whole.specs.Round.{hundredthUp}
+use Rattle.days.specs.Days.{rising, isWeekend, isException, isWorking, firstWorking, lastWorking}
+use Rattle.days.specs.declared.Day.the-variants.{On}
+use Rattle.calendar.specs.Months.{isCode, monthOf, codeOf, monthLength, firstDay, thirdWednesday, settlementDay, lastTradingDay, settlementOf, lastTradingOf}
+use Rattle.calendar.specs.Listing.{listing}
+use Rattle.calendar.specs.Choosing.{considered}
+use Rattle.calendar.specs.ChoosingLaws.{chosenAfter, computed-listing}
+use Rattle.calendar.specs.Examples.{plain}
+use Rattle.calendar.specs.Examples as calendar
+use Rattle.numbers.specs.Seven.{none, got, decode, unbounded}
+use Rattle.numbers.specs.Examples as numbers
+use Rattle.fields.specs.Fold.{folded, unfolded}
+use Rattle.fields.specs.Fields.{ceilings, kinds, allWithin}
+use Rattle.records.specs.Records.{Entry, writing, reading}
+use Rattle.records.specs.Reading.{readingAt}
+use Rattle.records.specs.Outcomes.{outcomeOf, refusedAt}
+use Rattle.records.specs.Examples as records
+use Rattle.tallies.specs.Day as day
+use Rattle.tallies.specs.Means.{meanOf, total}
+use Rattle.tallies.specs.Tally.{tallyFrom, latestOf, inDay}
+use Rattle.rates.specs.Rules.{numberOf, ruleAt, settled}
+use Rattle.rates.specs.Settling.{settledFrom}
+use Rattle.rates.specs.declared.Rule.the-variants.{LastHour, Quotes}
+use Rattle.rates.specs.declared.Settled.{Settled}
+use Rattle.rates.specs.Examples as rates
+use Rattle.positions.specs.Totals as positions
+use Rattle.positions.specs.Variation.{variationAt, variation}
+use Rattle.positions.specs.Carried.{allCarried}
+use Rattle.holdings.specs.Holdings.{newHoldings}
+use Rattle.holdings.specs.Limits.{totalsOf, isOver}
+use Rattle.holdings.specs.declared.Totals.{Totals}
+use Rattle.holdings.specs.LimitLaws as holdings
+use Rattle.closing.specs.DayEnd.{atClose, overLimit, requirement, withCore}
+use Rattle.funds.specs.Funds as funds
+use Rattle.accounts.specs.Accounts.{closed}
+use Rattle.model.specs.Book.{new}
+use Rattle.model.specs.Calls.{callOf}
+use Rattle.model.specs.Effects.{after}
+use Rattle.model.specs.Refusals.{firstOf, refusal}
+use Rattle.model.specs.Answers.{Report, Answer, refused, done, bothSides, report}
+use Rattle.model.specs.History.{run}
+use Rattle.model.specs.CourseLaws.{starts, enrols, paysIn, opens, trades, quotes, settles, closes, afterAll, stepsOf, refusals, Course, answersTo, Runs, nothing, nothing-runs, further, further-runs, opened, opened-runs, plain-accepted}
+
+-- ---- the records, the latest first
+-- A printed day: "start 3,000,000, 100, none; enrol 1000001 and 1000002, limit 10, tolerance 0; each pays in 100,000,000"
+abbrev start : List Entry
+start = starts 3000000 100 ∷ []
+
+abbrev enrolAndPay : List Entry
+enrolAndPay = paysIn 1000002 100000000 ∷ paysIn 1000001 100000000 ∷ enrols 1000002 10 0 ∷ enrols 1000001 10 0 ∷ []
+
+-- "open day 1339, list rates 23,000, margin rates 3,000,000; settle"
+abbrev openOn : ℕ → Entry
+openOn day = opens day (pos 23000) 3000000
+
+-- "trade 34,200, 2312, 1000001, 1000002, 4, 23,100"
+abbrev pub purchase : ℕ → ℕ → Entry
+purchase time lots = trades time 2312 1000001 1000002 lots (pos 23100)
+
+abbrev settleAndTrade : List Entry
+settleAndTrade = purchase 34200 4 ∷ settles ∷ []
+
+abbrev pub beforeClose : List Entry
+beforeClose = settleAndTrade ++ (openOn 1339 ∷ (enrolAndPay ++ start))
+
+-- "close 0"
+abbrev pub printedDay : List Entry
+printedDay = closes (pos 0) ∷ beforeClose
+
+-- day 1339 is a Friday, and the next working day is 1342
+abbrev pub nextSettle : List Entry
+nextSettle = settles ∷ openOn 1342 ∷ printedDay
+
+-- ---- part by part
+abbrev six : List ℕ
+six = 2309 ∷ 2310 ∷ 2311 ∷ 2312 ∷ 2403 ∷ 2406 ∷ []
+
+listing-1339 : listing plain 1339 ≡ record { known = true; codes = six }
+unfolding isWorking isException isWeekend firstWorking codeOf monthLength firstDay thirdWednesday settlementDay considered chosenAfter
+listing-1339 = sym (computed-listing plain 1339 54 (omega arith) refl)
+
+listing-1342 : listing plain 1342 ≡ record { known = true; codes = six }
+unfolding isWorking isException isWeekend firstWorking codeOf monthLength firstDay thirdWednesday settlementDay considered chosenAfter
+listing-1342 = sym (computed-listing plain 1342 54 (omega arith) refl)
+
+abbrev atStart : Course
+atStart = further start nothing
+
+start-runs : Runs atStart
+unfolding all rising ceilings kinds allWithin new callOf afterAll firstOf refusal refusals
+start-runs = further-runs start nothing nothing-runs (rw plain-accepted)
+
+abbrev atPay : Course
+atPay = further enrolAndPay atStart
+
+pay-runs : Runs atPay
+unfolding has all rising ceilings kinds allWithin newHoldings funds.newFunds funds.paidIn new callOf after afterAll firstOf refusal refusals
+pay-runs = further-runs enrolAndPay atStart start-runs refl
+
+abbrev atOpen : Course
+atOpen = opened six 1339 (pos 23000) 3000000 atPay
+
+open-runs : Runs atOpen
+unfolding all rising isWeekend isException isWorking folded unfolded ceilings kinds allWithin new callOf after afterAll firstOf refusal
+open-runs = opened-runs six 1339 (pos 23000) 3000000 atPay pay-runs listing-1339 (rw listing-1339)
+
+abbrev atTrade : Course
+atTrade = further settleAndTrade atOpen
+
+trade-runs : Runs atTrade
+unfolding has placeOf all zipped sumZ rising folded unfolded ceilings kinds allWithin positions.total newHoldings totalsOf isOver funds.newFunds funds.paidUp funds.settled funds.paidIn new callOf after afterAll firstOf refusal refusals
+trade-runs = further-runs settleAndTrade atOpen open-runs refl
+
+abbrev atClosed : Course
+atClosed = further (closes (pos 0) ∷ []) atTrade
+
+close-runs : Runs atClosed
+unfolding all rising folded unfolded ceilings kinds allWithin callOf after afterAll firstOf refusal refusals
+close-runs = further-runs (closes (pos 0) ∷ []) atTrade trade-runs refl
+
+abbrev atNext : Course
+atNext = opened six 1342 (pos 23000) 3000000 atClosed
+
+next-runs : Runs atNext
+unfolding all rising isWeekend isException isWorking firstWorking folded unfolded ceilings kinds allWithin new callOf after afterAll firstOf refusal
+next-runs = opened-runs six 1342 (pos 23000) 3000000 atClosed close-runs listing-1342 (rw listing-1342)
+
+abbrev atSettle : Course
+atSettle = further (settles ∷ []) atNext
+
+settle-runs : Runs atSettle
+unfolding all rising ceilings kinds allWithin callOf after afterAll firstOf refusal refusals
+settle-runs = further-runs (settles ∷ []) atNext next-runs refl
+
+-- ---- the printed day
+-- "Per record: kind and `ok`, or kind, `no`, refusal"; "An accepted close adds the day, then per contract by code `rate`, code, rate, rule,
+-- trades or counted quotes used ..; per account by number `account`, account, day's variation, due, requirement, free; then `house` and its
+-- balance."
+pub data Line : Type 0 where
+  ok : ℕ → Line
+  not-ok : ℕ → ℕ → Line
+  ok-on : ℕ → ℕ → Line
+  rate : ℕ → ℤ → ℕ → ℕ → Line
+  account : ℕ → ℤ → ℤ → ℤ → ℤ → Line
+  house : ℤ → Line
+
+abbrev rateLine : Report → ℕ → Line
+rateLine r c = rate c (r .settled c .rate) (numberOf (r .settled c .rule)) (r .settled c .used)
+
+abbrev accountLine : Report → ℕ → Line
+accountLine r n = account n (r .bill n .variation) (r .bill n .due) (r .bill n .requirement) (r .bill n .free)
+
+-- accounts in the order in which they enrolled, which is here that of their numbers
+abbrev pub linesOf : ℕ → Answer → List Line
+linesOf kind (refused n) = not-ok kind n ∷ []
+linesOf kind done = ok kind ∷ []
+linesOf kind (bothSides buyer seller) = ok kind ∷ []
+linesOf kind (report r) = ok-on kind (r .day) ∷ (map (rateLine r) (r .codes) ++ map (accountLine r) (r .members) ++ (house (r .house) ∷ []))
+
+unfoldable pub linesTo : List Entry → List Answer → List Line
+linesTo [] answers = []
+linesTo (e ∷ h) [] = []
+linesTo (e ∷ h) (a ∷ answers) = linesTo h answers ++ linesOf (e .kind) a
+
+abbrev pub printed : List Entry → List Line
+printed h = linesTo h (answersTo h)
+
+pub printed-day : printed printedDay
+    ≡ ok 0 ∷ ok 1 ∷ ok 1 ∷ ok 2 ∷ ok 2 ∷ ok 7 ∷ ok 10 ∷ ok 8 ∷ ok-on 12 1339
+    ∷ rate 2309 (pos 23000) 4 0
+    ∷ rate 2310 (pos 23000) 4 0
+    ∷ rate 2311 (pos 23000) 4 0
+    ∷ rate 2312 (pos 23000) 4 0
+    ∷ rate 2403 (pos 23000) 4 0
+    ∷ rate 2406 (pos 23000) 4 0
+    ∷ account 1000001 (negℤ (pos 100000)) (negℤ (pos 100000)) (pos 30000000) (negℤ (pos 30100000))
+    ∷ account 1000002 (pos 100000) (pos 100000) (pos 30000000) (negℤ (pos 29900000))
+    ∷ house (pos 0)
+    ∷ []
+unfolding linesTo stepsOf has placeOf all zipped sumZ those larger hundredthUp rising folded unfolded isWeekend isException isWorking firstWorking lastWorking isCode monthOf monthLength firstDay thirdWednesday settlementDay lastTradingDay day.inLastHour meanOf total tallyFrom latestOf inDay ruleAt settledFrom positions.total variationAt variation allCarried newHoldings totalsOf atClose overLimit requirement withCore funds.newFunds funds.billed funds.paidUp funds.settled funds.paidIn closed new callOf after afterAll
+printed-day = rw (close-runs .answers)
+
+-- ---- the twelve marked examples
+abbrev tradeOf : ℕ → ℤ → day.Trade
+tradeOf lots r = record { time = day.windowStart; lots = lots; rate = r }
+
+abbrev quoteOf : ℕ → ℤ → day.Quote
+quoteOf s r = record { time = day.windowStart; side = s; rate = r }
+
+-- in the last hour, on a day that is not a contract's last
+abbrev ratedBy : List day.Trade → List day.Quote → Settled
+ratedBy trades quotes = settled trades quotes (pos 0) false (pos 0)
+
+abbrev fiveTrades : ℤ → List day.Trade
+fiveTrades r = tradeOf 2 r ∷ tradeOf 1 r ∷ tradeOf 1 (pos 0) ∷ tradeOf 1 (pos 0) ∷ tradeOf 1 (pos 0) ∷ []
+
+abbrev side : ℕ → ℕ → ℕ → Totals
+side before after limit = record { before = pos before; after = pos after; limit = pos limit }
+
+pub record Marked : Type 0 where
+  -- 1. "The trade above is 08 98 8B 02 88 12 C1 84 3D C2 84 3D 04 F8 E8 02."
+  pub trade-bytes : writing (purchase 34200 4)
+      ≡ 0x08 ∷ 0x98 ∷ 0x8B ∷ 0x02 ∷ 0x88 ∷ 0x12 ∷ 0xC1 ∷ 0x84 ∷ 0x3D ∷ 0xC2 ∷ 0x84 ∷ 0x3D ∷ 0x04 ∷ 0xF8 ∷ 0xE8 ∷ 0x02 ∷ []
+  -- 2. "80 00 is refused; 00 is zero."
+  pub shortest :
+      (decode (0x80 ∷ 0x00 ∷ []) ≡ none)
+      × (outcomeOf (readingAt (0x80 ∷ 0x00 ∷ []) 0 .answer) ≡ refusedAt 1 0)
+      × (decode (0x00 ∷ []) ≡ got 0 [])
+  -- 3. "2309 settles on day 1358."
+  pub settles-on : settlementOf plain 2309 ≡ On 1358
+  -- 4. "Its last trading day is 1357."
+  pub last-trades-on : lastTradingOf plain 2309 ≡ On 1357
+  -- 5. "Without exceptions, day 1386 lists 2311, 2312, 2401, 2403, 2406, 2409."
+  pub lists : listing plain 1386 ≡ record { known = true; codes = 2311 ∷ 2312 ∷ 2401 ∷ 2403 ∷ 2406 ∷ 2409 ∷ [] }
+  -- 6. "Lots 2 at 1, 1 at 1, three of 1 at 0: mean 0.5, rate 1."
+  pub half-up : ratedBy (fiveTrades (pos 1)) [] ≡ record { rate = pos 1; rule = LastHour; used = 5 }
+  -- 7. "The same with -1: rate -1."
+  pub half-down : ratedBy (fiveTrades (negℤ (pos 1))) [] ≡ record { rate = negℤ (pos 1); rule = LastHour; used = 5 }
+  -- 8. "Bids 10, 11, offer 12: 11.25, rate 11."
+  pub mean-quotes :
+      ratedBy [] (quoteOf 0 (pos 10) ∷ quoteOf 0 (pos 11) ∷ quoteOf 1 (pos 12) ∷ []) ≡ record { rate = pos 11; rule = Quotes; used = 3 }
+  -- 9. "Next settle above: account 1000001 has cash 69,900,000, margin 30,000,000, due 0."
+  pub next-settle : let f = run nextSettle .accounts .funds 1000001 in
+      (f .cash ≡ pos 69900000) × (f .margin ≡ pos 30000000) × (f .due ≡ pos 0)
+  -- 10. "Above, before the close, a second purchase of 2312 by 1000001 from 1000002 of 6 lots passes; of 7 is refused 14."
+  pub second-purchase : (refusal (run beforeClose) (purchase 34200 6) ≡ 0) × (refusal (run beforeClose) (purchase 34200 7) ≡ 14)
+  -- 11. "A side with total 12,000,000 before, 9,000,000 after and limit 6,000,000 is not over the limit; with 12,000,001 after it is."
+  pub over-limit : (isOver (side 12000000 9000000 6000000) ≡ false) × (isOver (side 12000000 12000001 6000000) ≡ true)
+  -- 12. "Time 43,200 is refused 10; 43,199 passes."
+  pub trade-hours : (refusal (run beforeClose) (purchase 43200 1) ≡ 10) × (refusal (run beforeClose) (purchase 43199 1) ≡ 0)
+  pub quote-hours :
+      (refusal (run beforeClose) (quotes 43200 2312 0 (pos 23100)) ≡ 10)
+      × (refusal (run beforeClose) (quotes 43199 2312 0 (pos 23100)) ≡ 0)
+
+malformed-two : outcomeOf (readingAt (0x80 ∷ 0x00 ∷ []) 0 .answer) ≡ refusedAt 1 0
+unfolding reading unbounded
+malformed-two = refl
+
+next-funds : let f = run nextSettle .accounts .funds 1000001 in
+    (f .cash ≡ pos 69900000) × (f .margin ≡ pos 30000000) × (f .due ≡ pos 0)
+unfolding has placeOf zipped sumZ those larger hundredthUp folded unfolded isWeekend isException isWorking firstWorking lastWorking isCode monthOf monthLength firstDay thirdWednesday settlementDay lastTradingDay day.inLastHour meanOf total tallyFrom latestOf inDay ruleAt settledFrom positions.total variationAt variation allCarried newHoldings atClose overLimit requirement withCore funds.newFunds funds.billed funds.paidUp funds.settled funds.paidIn closed new callOf after afterAll
+next-funds = rw (settle-runs .books) (refl, refl, refl)
+
+-- on the book before the close: the refusals of purchases and of a quote
+tried : (refusal (run beforeClose) (purchase 34200 6) ≡ 0) × (refusal (run beforeClose) (purchase 34200 7) ≡ 14)
+    × (refusal (run beforeClose) (purchase 43200 1) ≡ 10) × (refusal (run beforeClose) (purchase 43199 1) ≡ 0)
+    × (refusal (run beforeClose) (quotes 43200 2312 0 (pos 23100)) ≡ 10) × (refusal (run beforeClose) (quotes 43199 2312 0 (pos 23100)) ≡ 0)
+unfolding has placeOf all zipped sumZ those rising folded unfolded day.inLastHour meanOf total tallyFrom latestOf inDay ceilings kinds allWithin positions.total newHoldings totalsOf isOver funds.newFunds funds.paidUp funds.settled funds.paidIn new callOf after afterAll firstOf refusal
+tried = rw (trade-runs .books) (refl, refl, refl, refl, refl, refl)
+
+pub marked : Marked
+marked = record {
+  trade-bytes = records.example-1;
+  shortest = (numbers.example-2-refused, malformed-two, numbers.example-2-zero);
+  settles-on = calendar.example-3;
+  last-trades-on = calendar.example-4;
+  lists = calendar.example-5;
+  half-up = rates.example-6;
+  half-down = rates.example-7;
+  mean-quotes = rates.example-8;
+  next-settle = next-funds;
+  second-purchase = (tried .0, tried .1);
+  over-limit = holdings.example-11;
+  trade-hours = (tried .2, tried .3);
+  quote-hours = (tried .4, tried .5);
+}

@@ -1,0 +1,120 @@
+-- What the book promises after any list of calls, refused ones included: demand 3, and what demand 2 says of trades, opens and closes.
+-- Here the statements only; Kept has the theorem.
+use mathlib.Core.Path.{_≡_}
+use mathlib.Core.Bool.{true, false, cond}
+use mathlib.Core.List.{List, [], _∷_, _++_, map}
+use Prim.Native.Nat.{ℕ, suc}
+use lib.IntN.{ℤ, pos, _+ℤ_, _-ℤ_, _*ℤ_}
+use lib.ListN.{getD}
+use lib.Signed.{_≤ℤ_}
+use Rattle.lists.specs.Has.{placeOf}
+use Rattle.lists.specs.Tabulate.{tab}
+use Rattle.lists.specs.All.{All}
+use Rattle.whole.specs.Sums.{sumZ}
+use Rattle.whole.specs.Over.{sumOver}
+use Rattle.whole.specs.Larger.{larger}
+use Rattle.records.specs.Records.{Entry}
+use Rattle.rates.specs.Rules as rules
+use Rattle.positions.specs.Deals.{Deal, lotsOf}
+use Rattle.positions.specs.Variation.{variationOf}
+use Rattle.holdings.specs.declared.Totals.{Totals}
+use Rattle.model.specs.Book.{Book, isMember, isListed}
+use Rattle.model.specs.Calls.{Trade, Opening, callOf, opening, trade, close}
+use Rattle.model.specs.Effects.{codesOn, isEnding}
+use Rattle.model.specs.Refusals.{refusal}
+use Rattle.model.specs.Answers.{called, Answer, answer, refused, bothSides, report, reportOf}
+use Rattle.model.specs.History.{Step, run, log, acceptedOf, Dated, closedTrades, todaysTrades, todaysQuotes, tradesIn, quotesIn, ownTrades, dealFor, dealsOf, booked, bookedTo, latest, hasEnded, paidIn, paidOut, movedTo, variationIn}
+use Rattle.model.specs.Bounds.{totalIn, limitIn, Bounded}
+
+-- "one rate unit on one lot is 250 fen exactly": signed lots x 250 x (rate - traded rate)
+abbrev pub worthAt : ℤ → Deal → ℤ
+worthAt rate d = d .lots *ℤ (pos 250 *ℤ (rate -ℤ d .rate))
+
+-- a side of an accepted trade: "each side's total before and after and its limit"
+abbrev pub sideOf : Book → Book → ℕ → Totals
+sideOf b after n = record { before = totalIn b n; after = totalIn after n; limit = limitIn b n }
+
+-- the lines of a desk's question: each of the account's trades of the day in a contract, and the position that was carried over
+pub data Line : Type 0 where
+  madeToday : Trade → Line
+  carriedOver : ℤ → ℤ → Line
+
+abbrev pub amountOf : ℕ → ℤ → Line → ℤ
+amountOf n rate (madeToday t) = worthAt rate (dealFor n t)
+amountOf n rate (carriedOver net previous) = net *ℤ (pos 250 *ℤ (rate -ℤ previous))
+
+abbrev pub linesOf : ℕ → ℕ → List Dated → ℤ → ℤ → List Line
+linesOf n c today net previous = map (λ d. madeToday (d .deal)) (ownTrades n c today) ++ (carriedOver net previous ∷ [])
+
+-- ---- an accepted trade
+-- Demand 3: "no accepted trade lifts a total above both its limit and the total before".
+pub record TradeKept (b after : Book) (a : Answer) (t : Trade) : Type 0 where
+  pub answers : a ≡ bothSides (sideOf b after (t .buyer)) (sideOf b after (t .seller))
+  pub lifts-none : (n : ℕ) → totalIn after n ≤ℤ larger (limitIn b n) (totalIn b n)
+
+-- ---- an accepted open
+pub record OpenKept (b after : Book) (o : Opening) : Type 0 where
+  pub codes : after .contracts .codes ≡ codesOn b (o .day)
+  pub stays : (c : ℕ) → isListed b c ≡ true → isListed after c ≡ true
+  pub nets : (n c : ℕ) → after .accounts .position n c .net ≡ cond (isListed b c) (b .accounts .position n c .net) (pos 0)
+  pub previous : (c : ℕ) → isListed after c ≡ true
+      → after .contracts .terms c .previous
+      ≡ cond (isListed b c) (b .contracts .terms c .previous) (getD (o .rates) (placeOf c (after .contracts .codes)) (pos 0))
+  pub margin : (c : ℕ) → isListed after c ≡ true
+      → after .contracts .terms c .margin
+      ≡ cond (isListed b c) (b .contracts .terms c .margin) (getD (o .margins) (placeOf c (after .contracts .codes)) 0)
+
+-- ---- an accepted close, after a history with the log l
+pub record CloseKept (b after : Book) (a : Answer) (l : List Step) (final : ℤ) : Type 0 where
+  pub answers : a ≡ report (reportOf after)
+  -- rate, rule and count
+  pub settles : (c : ℕ) → isListed b c ≡ true
+      → after .results .settled c
+      ≡ rules.settled (tradesIn c (todaysTrades l)) (quotesIn c (todaysQuotes l)) (b .contracts .terms c .previous) (isEnding b c) final
+  -- "250 x (sum over today's trades of signed lots x (rate - traded rate) + net before today x (rate - previous rate))", where the net
+  -- before today is that of the account's trades of the closed days
+  pub books : (n c : ℕ) → isListed b c ≡ true
+      → variationIn b final n c
+      ≡ variationOf (dealsOf n c (todaysTrades l)) (lotsOf (dealsOf n c (closedTrades l))) (b .contracts .terms c .previous) (after .results .settled c .rate)
+  -- "added to the account's due"
+  pub bills : (n : ℕ) → isMember b n ≡ true
+      → (after .accounts .held n .variation ≡ sumOver (variationIn b final n) (b .contracts .codes))
+      × (after .accounts .funds n .due ≡ b .accounts .funds n .due +ℤ sumOver (variationIn b final n) (b .contracts .codes))
+  -- the desk's lines
+  pub lines : (n c : ℕ) → isListed b c ≡ true
+      → variationIn b final n c
+      ≡ sumOver (amountOf n (after .results .settled c .rate))
+      (linesOf n c (todaysTrades l) (lotsOf (dealsOf n c (closedTrades l))) (b .contracts .terms c .previous))
+  pub two-lines : (rate : ℤ)
+      → All (λ d. amountOf (d .deal .buyer) rate (madeToday (d .deal)) +ℤ amountOf (d .deal .seller) rate (madeToday (d .deal)) ≡ pos 0) (todaysTrades l)
+
+-- ---- after any list of calls, the latest first
+pub record Promises (h : List Entry) : Type 0 where
+  -- 1. "the variation booked to an account in a contract is what its accepted trades of closed days earn, trade by trade, at the latest
+  -- settlement rate"
+  pub trade-by-trade : (n c : ℕ) → booked n c (log h) ≡ sumOver (worthAt (latest c (log h))) (dealsOf n c (closedTrades (log h)))
+  -- 2. "per contract, lots and variation sum to zero over accounts"
+  pub lots-cancel : (c : ℕ) → sumOver (λ n. run h .accounts .position n c .net) (run h .accounts .members) ≡ pos 0
+  pub variation-cancels : (c : ℕ) → sumOver (λ n. booked n c (log h)) (run h .accounts .members) ≡ pos 0
+  -- 3. "all cash, house included, equals paid in less paid out, margin counted as cash"
+  pub money-stays :
+      sumOver (λ n. run h .accounts .funds n .cash +ℤ run h .accounts .funds n .margin) (run h .accounts .members) +ℤ run h .house
+      ≡ paidIn (log h) -ℤ paidOut (log h)
+  -- "the house account equals the variation not yet paid"
+  pub house-owes : run h .house ≡ sumOver (λ n. run h .accounts .funds n .due) (run h .accounts .members)
+  pub house-unpaid : run h .house ≡ sumOver (λ n. bookedTo n (log h) -ℤ movedTo n (log h)) (run h .accounts .members)
+  pub all-contracts : (n : ℕ) → bookedTo n (log h) ≡ sumZ (tab (λ c. booked n c (log h)) 10000)
+  -- 4. "no accepted trade lifts a total above both its limit and the total before"
+  pub trades : (e : Entry) (t : Trade) → refusal (run h) e ≡ 0 → callOf e ≡ trade t
+      → TradeKept (run h) (called (run h) e) (answer (run h) e) t
+  -- 5 and 8. rates, rules, counts, variation and its lines
+  pub closes : (e : Entry) (final : ℤ) → refusal (run h) e ≡ 0 → callOf e ≡ close final
+      → CloseKept (run h) (called (run h) e) (answer (run h) e) (log h) final
+  -- 6. "A refusal returns its number .. and changes nothing."
+  pub refusals : (e : Entry) (k : ℕ) → refusal (run h) e ≡ suc k → (called (run h) e ≡ run h) × (answer (run h) e ≡ refused (suc k))
+  pub without-refused : (run (acceptedOf h) ≡ run h) × (log (acceptedOf h) ≡ log h)
+  -- 7. "These ceilings let every sum fit signed 64 bits over the calendar's life"
+  pub bounds : Bounded (run h)
+  -- "Opening removes and lists accordingly"; a code that has ended is never listed again
+  pub opens : (e : Entry) (o : Opening) → refusal (run h) e ≡ 0 → callOf e ≡ opening o → OpenKept (run h) (called (run h) e) o
+  pub ended-for-good : (c : ℕ) → hasEnded c (log h) ≡ true → isListed (run h) c ≡ false

@@ -1,0 +1,108 @@
+-- How large a book's numbers are, part by part, each by what it depends on; and that the book is then bounded.
+use mathlib.Core.Path.{_≡_}
+use mathlib.Core.Bool.{false}
+use mathlib.Core.List.{List, [], _∷_, map}
+use Prim.Native.Nat.{ℕ, _+_, _*_, _≤_, zero-le}
+use native.Mathlib.Nat.{le-trans, mul-le-mul}
+use native.Mathlib.Omega.{arith}
+use lib.IntN.{natAbs, _-ℤ_}
+use lib.ListN.{length}
+use Rattle.lists.specs.Zipped.{zipped}
+use Rattle.whole.specs.Within.{Within}
+use Rattle.whole.specs.Sums.{sumZ}
+use Rattle.whole.specs.Sizes.{sizes, sum-sizes}
+use Rattle.whole.specs.Over.{sumOver}
+use Rattle.whole.specs.Amounts.{Amount, amount-pos, amount-+, amount-widen}
+use Rattle.tallies.specs.Bounds as tallies
+use Rattle.positions.specs.Bounds.{costs}
+use Rattle.positions.specs.Totals as positions
+use Rattle.positions.specs.declared.Position.{Position}
+use Rattle.funds.specs.Bounds as funds
+use Rattle.funds.specs.declared.Funds.{Funds}
+use Rattle.model.specs.Book.{Book, Point, unstarted, unopened, unsettled, settledToday, ended, Today, Contracts}
+use Rattle.model.specs.Refusals.{isSettled}
+use Rattle.model.specs.Bounds.{closedDays, allBooked, Modest, Fair, Bounded}
+use Rattle.model.specs.NaturalLaws.{totalOver}
+use Rattle.model.specs.RangeLaws.{GoodSettings}
+
+-- ---- parts
+abbrev pub daysOf : Today → ℕ
+daysOf t = closedDays (t .point) (t .day)
+
+pub record Timely (t : Today) : Type 0 where
+  pub day : t .day ≤ 3652
+  pub trades : t .trades ≤ 10000
+
+-- a code's tally has no more than the day's trades
+pub record Tallied (trades : ℕ) (c : Contracts) : Type 0 where
+  pub terms : (k : ℕ) → Fair (c .terms k)
+  pub tallies : (k : ℕ) → tallies.Sound (c .tally k)
+  pub few : (k : ℕ) → c .tally k .trades ≤ trades
+
+-- Each account's own costs are those of one side of a trade; the sums over accounts are those of both sides.
+pub record Dealt (trades : ℕ) (codes members : List ℕ) (position : ℕ → ℕ → Position) : Type 0 where
+  pub nets : (n c : ℕ) → Within 20000 (position n c .net)
+  pub befores : (n c : ℕ) → Within 20000 (position n c .before)
+  pub own : (n : ℕ) → costs (map (position n) codes) ≤ trades * 100000000
+  pub costs : totalOver (λ n. costs (map (position n) codes)) members ≤ 2 * trades * 100000000
+  pub lots : totalOver (λ n. sizes (map (λ p. p .net -ℤ p .before) (map (position n) codes))) members ≤ 2 * trades * 1000
+
+-- From a close to the next settlement each account is billed.
+pub record Funded (t : Today) (members : List ℕ) (money : ℕ → Funds) : Type 0 where
+  pub sound : (n : ℕ) → funds.Sound (daysOf t) (money n)
+  pub billed : isSettled (t .point) ≡ false → (n : ℕ) → funds.Billed (money n)
+  pub dues : sizes (map (λ n. money n .due) members) ≤ daysOf t * allBooked
+
+-- ---- the book's
+pub record Sized (b : Book) : Type 0 where
+  pub today : Timely (b .today)
+  pub settings : GoodSettings (b .settings)
+  pub contracts : Tallied (b .today .trades) (b .contracts)
+  pub members : length (b .accounts .members) ≤ 64
+  pub held : (n : ℕ) → Modest (b .accounts .held n)
+  pub dealt : Dealt (b .today .trades) (b .contracts .codes) (b .accounts .members) (b .accounts .position)
+  pub funded : Funded (b .today) (b .accounts .members) (b .accounts .funds)
+
+-- ---- totals of any number of codes
+total-most : (position : ℕ → Position) (margin : ℕ → ℕ) (codes : List ℕ)
+    → ((c : ℕ) → Within 20000 (position c .net)) → ((c : ℕ) → margin c ≤ 100000000)
+    → Amount (length codes * 2000000000000) (positions.total (map position codes) (map margin codes))
+unfolding positions.total zipped sumZ
+total-most position margin [] n m = amount-pos 0 zero-le
+total-most position margin (c ∷ codes) n m =
+    amount-widen
+    (amount-+ (amount-pos (natAbs (position c .net) * margin c) (mul-le-mul (n c .size) (m c))) (total-most position margin codes n m))
+    (omega arith)
+
+-- ---- the bounds
+days-most : (p : Point) (day : ℕ) → closedDays p day ≤ day + 1
+days-most unstarted day = zero-le
+days-most unopened day = zero-le
+days-most unsettled day = omega arith
+days-most settledToday day = omega arith
+days-most ended day = omega arith
+
+pub sized-bounded : {b : Book} → Sized b → length (b .contracts .codes) ≤ 6
+    → b .house ≡ sumOver (λ n. b .accounts .funds n .due) (b .accounts .members) → Bounded b
+sized-bounded {b} s few owes = record {
+  days = omega (arith, days-most (b .today .point) (b .today .day), s .today .day);
+  trades = s .today .trades;
+  accounts = s .members;
+  reference = s .settings .reference;
+  multiplier = s .settings .multiplier;
+  terms = s .contracts .terms;
+  tallies = s .contracts .tallies;
+  held = s .held;
+  funds = s .funded .sound;
+  nets = s .dealt .nets;
+  befores = s .dealt .befores;
+  costs = s .dealt .costs;
+  lots = s .dealt .lots;
+  totals = λ n. amount-widen
+      (total-most (b .accounts .position n) (λ c. b .contracts .terms c .margin) (b .contracts .codes)
+      (s .dealt .nets n) (λ c. s .contracts .terms c .margin))
+      (omega arith);
+  limits = λ n. amount-+ (s .held n .core) (s .held n .limits .tolerance);
+  dues = s .funded .dues;
+  house = record { size = rw owes (le-trans (sum-sizes (map (λ n. b .accounts .funds n .due) (b .accounts .members))) (s .funded .dues)) };
+}

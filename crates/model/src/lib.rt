@@ -1,0 +1,1 @@
+// The model of the book: its definitions and theorems stand under specs/.
