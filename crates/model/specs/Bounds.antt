@@ -1,10 +1,11 @@
 -- How large the book's numbers can be on its day, so that every sum fits 64 bits over the calendar's life.
 use mathlib.Core.List.{map}
-use Prim.Native.Nat.{ℕ, _+_, _*_, _≤_}
+use Prim.Native.Nat.{ℕ, _+_, _*_, _^_, _≤_, _<_}
 use lib.IntN.{ℤ, _-ℤ_}
-use lib.ListN.{length}
+use lib.ListN.{length, take}
 use Rattle.whole.specs.Within.{Within}
 use Rattle.whole.specs.Sizes.{sizes}
+use Rattle.whole.specs.Over.{sumOver}
 use Rattle.whole.specs.Amounts.{Amount}
 use Rattle.tallies.specs.Bounds as tallies
 use Rattle.tallies.specs.Means.{total}
@@ -14,6 +15,7 @@ use Rattle.holdings.specs.Limits.{limitOf}
 use Rattle.holdings.specs.Bounds.{Granted}
 use Rattle.funds.specs.Bounds as funds
 use Rattle.model.specs.Book.{Book, Point, unstarted, unopened, unsettled, settledToday, ended, Held, Terms, positionsOf, holdingsOf, marginsOf}
+use Rattle.model.specs.Effects.{paidTo}
 
 -- ---- the days that may have been closed: those before the one that is open, and that one once it is closed
 abbrev pub closedDays : Point → ℕ → ℕ
@@ -81,3 +83,15 @@ pub record Bounded (b : Book) : Type 0 where
   pub limits : (n : ℕ) → Amount 200000000000000 (limitIn b n)
   pub dues : duesIn b ≤ closedDays (b .today .point) (b .today .day) * allBooked
   pub house : Within (closedDays (b .today .point) (b .today .day) * allBooked) (b .house)
+  -- the house while a settlement goes from account to account
+  pub settling : (k : ℕ) → Within (closedDays (b .today .point) (b .today .day) * allBooked) (b .house -ℤ sumOver (paidTo b) (take k (b .accounts .members)))
+
+-- ---- over the calendar's life
+-- 'Units and ceilings': "These ceilings let every sum fit signed 64 bits over the calendar's life; show it."
+pub record SumsFit : Type 0 where
+  pub dues : funds.daysMost * allBooked < 2 ^ 63
+  pub money : 100000000000000000 + 2 * (funds.daysMost * funds.mostBooked) < 2 ^ 63
+  pub free : funds.freeMost funds.daysMost < 2 ^ 63
+  -- the sums of rule 1, and of rule 3 with its common divisor
+  pub lot-weighted : 100000 * (1000 * 10000) < 2 ^ 63
+  pub half-of-two : 100000 * (2 * (10000 * 10000)) < 2 ^ 63

@@ -6,9 +6,11 @@ use Prim.Native.Nat.{ℕ}
 use lib.IntN.{ℤ}
 use lib.ListN.{replicate}
 use Rattle.lists.specs.Has.{has}
-use Rattle.days.specs.Days.{isWeekend, isException, isWorking, firstWorking, noLongBreak, accepted}
+use Rattle.lists.specs.Passing.{all}
+use Rattle.days.specs.Days.{rising, isWeekend, isException, isWorking, firstWorking, noLongBreak, accepted}
 use Rattle.calendar.specs.Listing.{listing}
 use Rattle.calendar.specs.Examples.{plain}
+use Rattle.fields.specs.Fields.{ceilings, kinds, allWithin}
 use Rattle.fields.specs.Fold.{folded}
 use Rattle.fields.specs.FoldLaws.{unfolded-folded}
 use Rattle.records.specs.Records.{Entry, entry}
@@ -23,7 +25,7 @@ use Rattle.model.specs.StepLaws.{Passed, passes}
 use Rattle.model.specs.RefusalLaws.{accepted-called, accepted-answer}
 
 -- ---- records, by kind
-abbrev pub starts : ℕ → ℕ → Entry
+abbrev starts : ℕ → ℕ → Entry
 starts reference multiplier = entry 0 (reference ∷ multiplier ∷ 0 ∷ []) []
 
 abbrev pub enrols : ℕ → ℕ → ℕ → Entry
@@ -57,11 +59,12 @@ unfoldable pub stepsOf : List Entry → Book → List Step
 stepsOf [] b = []
 stepsOf (e ∷ es) b = step (afterAll es b) (callOf e) ∷ stepsOf es b
 
+-- what each is refused for
 unfoldable pub refusals : List Entry → Book → List ℕ
 refusals [] b = []
 refusals (e ∷ es) b = refusal (afterAll es b) e ∷ refusals es b
 
--- ---- courses
+-- ---- courses: the calls, the book after them, and their steps
 pub record Course : Type 0 where
   pub calls : List Entry
   pub book : Book
@@ -80,10 +83,10 @@ pub record Runs (c : Course) : Type 0 where
   pub logs : log (c .calls) ≡ c .steps
   pub answers : answersTo (c .calls) ≡ map acceptedAt (c .steps)
 
-abbrev pub nothing : Course
+abbrev nothing : Course
 nothing = record { calls = []; book = new; steps = [] }
 
-pub nothing-runs : Runs nothing
+nothing-runs : Runs nothing
 unfolding run log answersTo
 nothing-runs = record { books = refl; logs = refl; answers = refl }
 
@@ -161,7 +164,17 @@ opened-runs codes day rate margin c r e p =
       answers = n .answers ∙ ap (λ x. map acceptedAt (step (c .book) x ∷ c .steps)) o;
     }
 
--- ---- the calendar without exceptions
-pub plain-accepted : accepted plain ≡ true
+-- ---- a start without exceptions
+plain-accepted : accepted plain ≡ true
 unfolding isWorking isException isWeekend firstWorking noLongBreak
 plain-accepted = refl
+
+abbrev pub start : List Entry
+start = starts 3000000 100 ∷ []
+
+abbrev pub atStart : Course
+atStart = further start nothing
+
+pub start-runs : Runs atStart
+unfolding all rising ceilings kinds allWithin new callOf afterAll firstOf refusal refusals
+start-runs = further-runs start nothing nothing-runs (rw plain-accepted)

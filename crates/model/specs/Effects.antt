@@ -30,26 +30,26 @@ use Rattle.model.specs.Book.{Book, Settings, Point, unopened, unsettled,
 use Rattle.model.specs.Calls.{Call, start, enrol, payIn, payOut, release, setSpecial, setLimits, opening, trade, quote, settle, refresh, close, unknown, Trade, Quote, Opening}
 
 -- ---- parts of a book put in place of its own
-abbrev pub withSettings : Book → Settings → Book
+abbrev withSettings : Book → Settings → Book
 withSettings b s = record { settings = s; today = b .today; contracts = b .contracts; results = b .results; accounts = b .accounts; house = b .house }
 
-abbrev pub withDay : Book → Today → Contracts → Book
+abbrev withDay : Book → Today → Contracts → Book
 withDay b t c = record { settings = b .settings; today = t; contracts = c; results = b .results; accounts = b .accounts; house = b .house }
 
-abbrev pub withAccounts : Book → Accounts → Book
+abbrev withAccounts : Book → Accounts → Book
 withAccounts b a = record { settings = b .settings; today = b .today; contracts = b .contracts; results = b .results; accounts = a; house = b .house }
 
 abbrev pub withHeld : Book → (ℕ → Held) → Book
 withHeld b held = withAccounts b (record { members = b .accounts .members; held = held; funds = b .accounts .funds; position = b .accounts .position })
 
-abbrev pub withFunds : Book → (ℕ → Funds) → Book
+abbrev withFunds : Book → (ℕ → Funds) → Book
 withFunds b f = withAccounts b (record { members = b .accounts .members; held = b .accounts .held; funds = f; position = b .accounts .position })
 
-abbrev pub withPositions : Book → (ℕ → ℕ → Position) → Book
+abbrev withPositions : Book → (ℕ → ℕ → Position) → Book
 withPositions b p = withAccounts b (record { members = b .accounts .members; held = b .accounts .held; funds = b .accounts .funds; position = p })
 
-abbrev pub at : Book → Point → Today
-at b point = record { point = point; day = b .today .day; clock = b .today .clock; trades = b .today .trades }
+abbrev atPoint : Book → Point → Today
+atPoint b point = record { point = point; day = b .today .day; clock = b .today .clock; trades = b .today .trades }
 
 -- what is done for each account that is enrolled
 abbrev pub forMembers : {A : Type 0} → Book → (ℕ → A) → (ℕ → A) → ℕ → A
@@ -57,7 +57,7 @@ forMembers b did was n = cond (isMember b n) (did n) (was n)
 
 -- ---- start, enrol, payments, limits
 abbrev pub started : Book → Settings → Book
-started b s = withDay (withSettings b s) (at b unopened) (b .contracts)
+started b s = withDay (withSettings b s) (atPoint b unopened) (b .contracts)
 
 -- Trade: "A new account has core = clearing limit times reference rate, its tolerance in force at once, and zero cash, ..".
 abbrev pub enrolled : Book → ℕ → Limits → Book
@@ -75,7 +75,7 @@ paid b n f = withFunds b (replaced (b .accounts .funds) n f)
 -- ---- open
 -- "Opening removes and lists accordingly. The new contract's list rate serves as its previous settlement rate; its margin
 -- rate is fixed for its life." The rates of the record are by rising code.
-abbrev pub listTerms : List ℕ → Opening → ℕ → Terms
+abbrev listTerms : List ℕ → Opening → ℕ → Terms
 listTerms codes o c = record { previous = getD (o .rates) (placeOf c codes) (pos 0); margin = getD (o .margins) (placeOf c codes) 0 }
 
 abbrev pub termsAfter : Book → List ℕ → Opening → ℕ → Terms
@@ -123,7 +123,7 @@ paidTo b n = funds.settled (b .accounts .funds n) .paid
 abbrev pub settledUp : Book → Book
 settledUp b = record {
   settings = b .settings;
-  today = at b settledToday;
+  today = atPoint b settledToday;
   contracts = b .contracts;
   results = b .results;
   accounts = record {
@@ -135,7 +135,7 @@ settledUp b = record {
   house = b .house -ℤ sumZ (map (paidTo b) (b .accounts .members));
 }
 
-abbrev pub refreshedAll : Book → Book
+abbrev refreshedAll : Book → Book
 refreshedAll b = withHeld b (forMembers b (λ n. besides (refreshed (b .settings .reference) (accountOf b n) .holdings)) (b .accounts .held))
 
 -- ---- close

@@ -18,8 +18,8 @@ use Rattle.calendar.specs.Months.{isCode, monthOf, codeOf, monthLength, firstDa
 use Rattle.calendar.specs.Listing.{listing}
 use Rattle.calendar.specs.Choosing.{considered}
 use Rattle.calendar.specs.ChoosingLaws.{chosenAfter, computed-listing}
-use Rattle.calendar.specs.Examples.{plain}
 use Rattle.calendar.specs.Examples as calendar
+use Rattle.calendar.specs.Examples.{plain}
 use Rattle.numbers.specs.Seven.{none, got, decode, unbounded}
 use Rattle.numbers.specs.Examples as numbers
 use Rattle.fields.specs.Fold.{folded, unfolded}
@@ -30,7 +30,7 @@ use Rattle.records.specs.Outcomes.{outcomeOf, refusedAt}
 use Rattle.records.specs.Examples as records
 use Rattle.tallies.specs.Day as day
 use Rattle.tallies.specs.Means.{meanOf, total}
-use Rattle.tallies.specs.Tally.{tallyFrom, latestOf, inDay}
+use Rattle.tallies.specs.Tally.{tallyFrom, inDay}
 use Rattle.rates.specs.Rules.{numberOf, ruleAt, settled}
 use Rattle.rates.specs.Settling.{settledFrom}
 use Rattle.rates.specs.declared.Rule.the-variants.{LastHour, Quotes}
@@ -52,13 +52,10 @@ use Rattle.model.specs.Effects.{after}
 use Rattle.model.specs.Refusals.{firstOf, refusal}
 use Rattle.model.specs.Answers.{Report, Answer, refused, done, bothSides, report}
 use Rattle.model.specs.History.{run}
-use Rattle.model.specs.CourseLaws.{starts, enrols, paysIn, opens, trades, quotes, settles, closes, afterAll, stepsOf, refusals, Course, answersTo, Runs, nothing, nothing-runs, further, further-runs, opened, opened-runs, plain-accepted}
+use Rattle.model.specs.CourseLaws.{enrols, paysIn, opens, trades, quotes, settles, closes, afterAll, stepsOf, refusals, Course, answersTo, Runs, further, further-runs, opened, opened-runs, start, atStart, start-runs}
 
 -- ---- the records, the latest first
 -- A printed day: "start 3,000,000, 100, none; enrol 1000001 and 1000002, limit 10, tolerance 0; each pays in 100,000,000"
-abbrev start : List Entry
-start = starts 3000000 100 ∷ []
-
 abbrev enrolAndPay : List Entry
 enrolAndPay = paysIn 1000002 100000000 ∷ paysIn 1000001 100000000 ∷ enrols 1000002 10 0 ∷ enrols 1000001 10 0 ∷ []
 
@@ -84,7 +81,7 @@ printedDay = closes (pos 0) ∷ beforeClose
 abbrev pub nextSettle : List Entry
 nextSettle = settles ∷ openOn 1342 ∷ printedDay
 
--- ---- part by part
+-- ---- part by part: each call passes
 abbrev six : List ℕ
 six = 2309 ∷ 2310 ∷ 2311 ∷ 2312 ∷ 2403 ∷ 2406 ∷ []
 
@@ -96,25 +93,18 @@ listing-1342 : listing plain 1342 ≡ record { known = true; codes = six }
 unfolding isWorking isException isWeekend firstWorking codeOf monthLength firstDay thirdWednesday settlementDay considered chosenAfter
 listing-1342 = sym (computed-listing plain 1342 54 (omega arith) refl)
 
-abbrev atStart : Course
-atStart = further start nothing
-
-start-runs : Runs atStart
-unfolding all rising ceilings kinds allWithin new callOf afterAll firstOf refusal refusals
-start-runs = further-runs start nothing nothing-runs (rw plain-accepted)
-
 abbrev atPay : Course
 atPay = further enrolAndPay atStart
 
 pay-runs : Runs atPay
-unfolding has all rising ceilings kinds allWithin newHoldings funds.newFunds funds.paidIn new callOf after afterAll firstOf refusal refusals
+unfolding has all rising ceilings kinds allWithin funds.newFunds funds.paidIn new callOf after afterAll firstOf refusal refusals
 pay-runs = further-runs enrolAndPay atStart start-runs refl
 
 abbrev atOpen : Course
 atOpen = opened six 1339 (pos 23000) 3000000 atPay
 
 open-runs : Runs atOpen
-unfolding all rising isWeekend isException isWorking folded unfolded ceilings kinds allWithin new callOf after afterAll firstOf refusal
+unfolding all rising isWeekend isException isWorking folded unfolded ceilings kinds allWithin callOf after afterAll firstOf refusal
 open-runs = opened-runs six 1339 (pos 23000) 3000000 atPay pay-runs listing-1339 (rw listing-1339)
 
 abbrev atTrade : Course
@@ -135,14 +125,14 @@ abbrev atNext : Course
 atNext = opened six 1342 (pos 23000) 3000000 atClosed
 
 next-runs : Runs atNext
-unfolding all rising isWeekend isException isWorking firstWorking folded unfolded ceilings kinds allWithin new callOf after afterAll firstOf refusal
+unfolding all rising isWeekend isException isWorking firstWorking folded unfolded ceilings kinds allWithin callOf after afterAll firstOf refusal
 next-runs = opened-runs six 1342 (pos 23000) 3000000 atClosed close-runs listing-1342 (rw listing-1342)
 
 abbrev atSettle : Course
 atSettle = further (settles ∷ []) atNext
 
 settle-runs : Runs atSettle
-unfolding all rising ceilings kinds allWithin callOf after afterAll firstOf refusal refusals
+unfolding all rising kinds allWithin callOf afterAll firstOf refusal refusals
 settle-runs = further-runs (settles ∷ []) atNext next-runs refl
 
 -- ---- the printed day
@@ -190,17 +180,18 @@ pub printed-day : printed printedDay
     ∷ account 1000002 (pos 100000) (pos 100000) (pos 30000000) (negℤ (pos 29900000))
     ∷ house (pos 0)
     ∷ []
-unfolding linesTo stepsOf has placeOf all zipped sumZ those larger hundredthUp rising folded unfolded isWeekend isException isWorking firstWorking lastWorking isCode monthOf monthLength firstDay thirdWednesday settlementDay lastTradingDay day.inLastHour meanOf total tallyFrom latestOf inDay ruleAt settledFrom positions.total variationAt variation allCarried newHoldings totalsOf atClose overLimit requirement withCore funds.newFunds funds.billed funds.paidUp funds.settled funds.paidIn closed new callOf after afterAll
+unfolding linesTo stepsOf has placeOf zipped sumZ those larger hundredthUp folded unfolded isWeekend isException isWorking firstWorking lastWorking isCode monthOf monthLength firstDay thirdWednesday settlementDay lastTradingDay day.inLastHour meanOf total tallyFrom inDay ruleAt settledFrom positions.total variationAt variation allCarried newHoldings atClose overLimit requirement withCore funds.newFunds funds.billed funds.paidUp funds.settled funds.paidIn closed new callOf after afterAll
 printed-day = rw (close-runs .answers)
 
 -- ---- the twelve marked examples
+-- trades and quotes in the last hour
 abbrev tradeOf : ℕ → ℤ → day.Trade
 tradeOf lots r = record { time = day.windowStart; lots = lots; rate = r }
 
 abbrev quoteOf : ℕ → ℤ → day.Quote
 quoteOf s r = record { time = day.windowStart; side = s; rate = r }
 
--- in the last hour, on a day that is not a contract's last
+-- on a day that is not the contract's last
 abbrev ratedBy : List day.Trade → List day.Quote → Settled
 ratedBy trades quotes = settled trades quotes (pos 0) false (pos 0)
 
@@ -245,35 +236,20 @@ pub record Marked : Type 0 where
       (refusal (run beforeClose) (quotes 43200 2312 0 (pos 23100)) ≡ 10)
       × (refusal (run beforeClose) (quotes 43199 2312 0 (pos 23100)) ≡ 0)
 
-malformed-two : outcomeOf (readingAt (0x80 ∷ 0x00 ∷ []) 0 .answer) ≡ refusedAt 1 0
-unfolding reading unbounded
-malformed-two = refl
-
-next-funds : let f = run nextSettle .accounts .funds 1000001 in
-    (f .cash ≡ pos 69900000) × (f .margin ≡ pos 30000000) × (f .due ≡ pos 0)
-unfolding has placeOf zipped sumZ those larger hundredthUp folded unfolded isWeekend isException isWorking firstWorking lastWorking isCode monthOf monthLength firstDay thirdWednesday settlementDay lastTradingDay day.inLastHour meanOf total tallyFrom latestOf inDay ruleAt settledFrom positions.total variationAt variation allCarried newHoldings atClose overLimit requirement withCore funds.newFunds funds.billed funds.paidUp funds.settled funds.paidIn closed new callOf after afterAll
-next-funds = rw (settle-runs .books) (refl, refl, refl)
-
--- on the book before the close: the refusals of purchases and of a quote
-tried : (refusal (run beforeClose) (purchase 34200 6) ≡ 0) × (refusal (run beforeClose) (purchase 34200 7) ≡ 14)
-    × (refusal (run beforeClose) (purchase 43200 1) ≡ 10) × (refusal (run beforeClose) (purchase 43199 1) ≡ 0)
-    × (refusal (run beforeClose) (quotes 43200 2312 0 (pos 23100)) ≡ 10) × (refusal (run beforeClose) (quotes 43199 2312 0 (pos 23100)) ≡ 0)
-unfolding has placeOf all zipped sumZ those rising folded unfolded day.inLastHour meanOf total tallyFrom latestOf inDay ceilings kinds allWithin positions.total newHoldings totalsOf isOver funds.newFunds funds.paidUp funds.settled funds.paidIn new callOf after afterAll firstOf refusal
-tried = rw (trade-runs .books) (refl, refl, refl, refl, refl, refl)
-
 pub marked : Marked
+unfolding has placeOf all zipped sumZ those larger hundredthUp rising isWeekend isException isWorking firstWorking lastWorking isCode monthOf monthLength firstDay thirdWednesday settlementDay lastTradingDay unbounded folded unfolded ceilings kinds allWithin reading day.inLastHour meanOf total tallyFrom inDay ruleAt settledFrom positions.total variationAt variation allCarried newHoldings totalsOf isOver atClose overLimit requirement funds.newFunds funds.billed funds.paidUp funds.settled funds.paidIn closed new callOf after firstOf refusal afterAll
 marked = record {
   trade-bytes = records.example-1;
-  shortest = (numbers.example-2-refused, malformed-two, numbers.example-2-zero);
+  shortest = (numbers.example-2-refused, refl, numbers.example-2-zero);
   settles-on = calendar.example-3;
   last-trades-on = calendar.example-4;
   lists = calendar.example-5;
   half-up = rates.example-6;
   half-down = rates.example-7;
   mean-quotes = rates.example-8;
-  next-settle = next-funds;
-  second-purchase = (tried .0, tried .1);
+  next-settle = rw (settle-runs .books) (refl, refl, refl);
+  second-purchase = rw (trade-runs .books) (refl, refl);
   over-limit = holdings.example-11;
-  trade-hours = (tried .2, tried .3);
-  quote-hours = (tried .4, tried .5);
+  trade-hours = rw (trade-runs .books) (refl, refl);
+  quote-hours = rw (trade-runs .books) (refl, refl);
 }

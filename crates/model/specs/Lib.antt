@@ -29,3 +29,4 @@ pub mod BoundLaws
 pub mod PromiseLaws
 pub mod CourseLaws
 pub mod Examples
+pub mod Alive

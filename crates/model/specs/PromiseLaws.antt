@@ -10,6 +10,7 @@ use Rattle.model.specs.VariationLaws.{trade-by-trade}
 use Rattle.model.specs.ZeroLaws.{lots-cancel, variation-cancels}
 use Rattle.model.specs.MoneyLaws.{money-stays, house-owes, house-unpaid, all-contracts}
 use Rattle.model.specs.CloseLaws.{closes-kept}
+use Rattle.model.specs.SizedLaws.{sums-fit}
 use Rattle.model.specs.BoundLaws.{bounds}
 
 pub promises : (h : List Entry) → Promises h
@@ -26,6 +27,7 @@ promises h = record {
   refusals = refused-same (run h);
   without-refused = without-refused h;
   bounds = bounds h;
+  fits = sums-fit;
   opens = opens h;
   ended-for-good = ended-for-good h;
 }

@@ -1,5 +1,5 @@
 -- What the book promises after any list of calls, refused ones included: demand 3, and what demand 2 says of trades, opens and closes.
--- Here the statements only; Kept has the theorem.
+-- Here the statements only; PromiseLaws has the theorem.
 use mathlib.Core.Path.{_≡_}
 use mathlib.Core.Bool.{true, false, cond}
 use mathlib.Core.List.{List, [], _∷_, _++_, map}
@@ -24,7 +24,7 @@ use Rattle.model.specs.Effects.{codesOn, isEnding}
 use Rattle.model.specs.Refusals.{refusal}
 use Rattle.model.specs.Answers.{called, Answer, answer, refused, bothSides, report, reportOf}
 use Rattle.model.specs.History.{Step, run, log, acceptedOf, Dated, closedTrades, todaysTrades, todaysQuotes, tradesIn, quotesIn, ownTrades, dealFor, dealsOf, booked, bookedTo, latest, hasEnded, paidIn, paidOut, movedTo, variationIn}
-use Rattle.model.specs.Bounds.{totalIn, limitIn, Bounded}
+use Rattle.model.specs.Bounds.{totalIn, limitIn, Bounded, SumsFit}
 
 -- "one rate unit on one lot is 250 fen exactly": signed lots x 250 x (rate - traded rate)
 abbrev pub worthAt : ℤ → Deal → ℤ
@@ -115,6 +115,7 @@ pub record Promises (h : List Entry) : Type 0 where
   pub without-refused : (run (acceptedOf h) ≡ run h) × (log (acceptedOf h) ≡ log h)
   -- 7. "These ceilings let every sum fit signed 64 bits over the calendar's life"
   pub bounds : Bounded (run h)
+  pub fits : SumsFit
   -- "Opening removes and lists accordingly"; a code that has ended is never listed again
   pub opens : (e : Entry) (o : Opening) → refusal (run h) e ≡ 0 → callOf e ≡ opening o → OpenKept (run h) (called (run h) e) o
   pub ended-for-good : (c : ℕ) → hasEnded c (log h) ≡ true → isListed (run h) c ≡ false

@@ -2,13 +2,14 @@
 use mathlib.Core.Path.{_≡_}
 use mathlib.Core.Bool.{false}
 use mathlib.Core.List.{List, [], _∷_, map}
-use Prim.Native.Nat.{ℕ, _+_, _*_, _≤_, zero-le}
-use native.Mathlib.Nat.{le-trans, mul-le-mul}
+use Prim.Native.Nat.{ℕ, zero, suc, _+_, _*_, _≤_, zero-le}
+use native.Mathlib.Nat.{le-refl, le-trans, mul-le-mul}
 use native.Mathlib.Omega.{arith}
-use lib.IntN.{natAbs, _-ℤ_}
-use lib.ListN.{length}
+use lib.IntN.{ℤ, natAbs, _+ℤ_, _-ℤ_, +ℤ-idr, +ℤ-invr}
+use lib.ListN.{length, take}
 use Rattle.lists.specs.Zipped.{zipped}
-use Rattle.whole.specs.Within.{Within}
+use Rattle.whole.specs.Parts.{parts₄, ring, zarith}
+use Rattle.whole.specs.Within.{Within, natAbs-+}
 use Rattle.whole.specs.Sums.{sumZ}
 use Rattle.whole.specs.Sizes.{sizes, sum-sizes}
 use Rattle.whole.specs.Over.{sumOver}
@@ -17,11 +18,14 @@ use Rattle.tallies.specs.Bounds as tallies
 use Rattle.positions.specs.Bounds.{costs}
 use Rattle.positions.specs.Totals as positions
 use Rattle.positions.specs.declared.Position.{Position}
+use Rattle.funds.specs.Funds.{paidUp, inDefault, settled}
+use Rattle.funds.specs.FundsLaws.{settled-keeps}
 use Rattle.funds.specs.Bounds as funds
 use Rattle.funds.specs.declared.Funds.{Funds}
 use Rattle.model.specs.Book.{Book, Point, unstarted, unopened, unsettled, settledToday, ended, Today, Contracts}
+use Rattle.model.specs.Effects.{paidTo}
 use Rattle.model.specs.Refusals.{isSettled}
-use Rattle.model.specs.Bounds.{closedDays, allBooked, Modest, Fair, Bounded}
+use Rattle.model.specs.Bounds.{closedDays, allBooked, Modest, Fair, Bounded, SumsFit}
 use Rattle.model.specs.NaturalLaws.{totalOver}
 use Rattle.model.specs.RangeLaws.{GoodSettings}
 
@@ -74,6 +78,30 @@ total-most position margin (c ∷ codes) n m =
     (amount-+ (amount-pos (natAbs (position c .net) * margin c) (mul-le-mul (n c .size) (m c))) (total-most position margin codes n m))
     (omega arith)
 
+-- ---- the house while a settlement goes from account to account
+-- what is left of sums of which parts are taken, where no part taken lifts its number's size
+partly : (d p : ℕ → ℤ) → ((n : ℕ) → natAbs (d n -ℤ p n) ≤ natAbs (d n)) → (ms : List ℕ) (k : ℕ)
+    → natAbs (sumOver d ms -ℤ sumOver p (take k ms)) ≤ sizes (map d ms)
+unfolding sumZ sizes
+partly d p h [] zero = zero-le
+partly d p h [] (suc k) = zero-le
+partly d p h (n ∷ ms) zero = rw (+ℤ-idr (d n +ℤ sumOver d ms)) (sum-sizes (map d (n ∷ ms)))
+partly d p h (n ∷ ms) (suc k) =
+    let rest = sumOver d ms -ℤ sumOver p (take k ms) in
+    rw (apart (d n) (p n) (sumOver d ms) (sumOver p (take k ms)))
+    (omega (arith, natAbs-+ (d n -ℤ p n) rest, h n, partly d p h ms k))
+  where
+    apart : (a b s t : ℤ) → (a +ℤ s) -ℤ (b +ℤ t) ≡ (a -ℤ b) +ℤ (s -ℤ t)
+    apart a b s t = parts₄ a b s t (λ x y z w. simp (x .is, y .is, z .is, w .is, ring) (omega zarith))
+
+-- an account is paid all that is due to it, or nothing
+unpaid : (f : Funds) → natAbs (f .due -ℤ settled f .paid) ≤ natAbs (f .due)
+unfolding paidUp inDefault
+unpaid f = settled-keeps (λ s. natAbs (f .due -ℤ s .paid) ≤ natAbs (f .due)) f
+    (λ free. rw (+ℤ-invr (f .due)) zero-le)
+    (λ free covered. rw (+ℤ-invr (f .due)) zero-le)
+    (λ free short. rw (+ℤ-idr (f .due)) (le-refl _))
+
 -- ---- the bounds
 days-most : (p : Point) (day : ℕ) → closedDays p day ≤ day + 1
 days-most unstarted day = zero-le
@@ -105,4 +133,13 @@ sized-bounded {b} s few owes = record {
   limits = λ n. amount-+ (s .held n .core) (s .held n .limits .tolerance);
   dues = s .funded .dues;
   house = record { size = rw owes (le-trans (sum-sizes (map (λ n. b .accounts .funds n .due) (b .accounts .members))) (s .funded .dues)) };
+  settling = λ k. record {
+    size = rw owes (le-trans
+        (partly (λ n. b .accounts .funds n .due) (paidTo b) (λ n. unpaid (b .accounts .funds n)) (b .accounts .members) k)
+        (s .funded .dues));
+  };
 }
+
+-- 3,653 days of them are below 2^63
+pub sums-fit : SumsFit
+sums-fit = record { dues = omega arith; money = omega arith; free = omega arith; lot-weighted = omega arith; half-of-two = omega arith }

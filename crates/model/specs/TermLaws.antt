@@ -19,7 +19,7 @@ use Rattle.tallies.specs.declared.Tally.{Tally}
 use Rattle.rates.specs.RuleLaws.{rate-within}
 use Rattle.model.specs.Book.{Book, Terms, noTerms, noTally, Contracts, isListed, replaced}
 use Rattle.model.specs.Calls.{Trade, Quote, Opening}
-use Rattle.model.specs.Effects.{termsAfter, isEnding, settledAt, codesLeft, termsLeft}
+use Rattle.model.specs.Effects.{termsAfter, settledAt, codesLeft, termsLeft}
 use Rattle.model.specs.Bounds.{Fair}
 use Rattle.model.specs.RangeLaws.{GoodOpening, GoodTrade}
 use Rattle.model.specs.SizedLaws.{Tallied}
@@ -46,8 +46,7 @@ opened-fair b codes o f g c =
 -- ---- a close
 pub rate-fair : (b : Book) (final : ℤ) → ((c : ℕ) → Fair (b .contracts .terms c)) → ((c : ℕ) → tallies.Sound (b .contracts .tally c))
     → Within 100000 final → (c : ℕ) → Within 100000 (settledAt b final c .rate)
-rate-fair b final f s w c =
-    rate-within (b .contracts .tally c) (s c) (b .contracts .terms c .previous) (isEnding b c) final (f c .previous) w
+rate-fair b final f s w c = rate-within (b .contracts .tally c) (s c) _ _ final (f c .previous) w
 
 pub closed-fair : (b : Book) (final : ℤ) → ((c : ℕ) → Fair (b .contracts .terms c)) → ((c : ℕ) → tallies.Sound (b .contracts .tally c))
     → Within 100000 final → (c : ℕ) → Fair (termsLeft b final c)
