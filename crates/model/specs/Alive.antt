@@ -1,60 +1,27 @@
 -- The promises are not empty: a list of calls with a trade, a close that books, settlements that move money, a default and its cure, and a
 -- roll in which one code ends and another is listed.
-use mathlib.Core.Path.{_≡_, refl, sym}
+use mathlib.Core.Path.{_≡_}
 use mathlib.Core.Bool.{true, false}
 use mathlib.Core.List.{List, [], _∷_, _++_}
-use Prim.Native.Nat.{ℕ}
-use native.Mathlib.Omega.{arith}
 use lib.IntN.{pos, negℤ}
-use Rattle.lists.specs.Has.{has, placeOf}
-use Rattle.lists.specs.Passing.{all}
-use Rattle.lists.specs.Zipped.{zipped}
-use Rattle.lists.specs.Those.{those}
-use Rattle.whole.specs.Sums.{sumZ}
-use Rattle.whole.specs.Larger.{larger}
-use Rattle.whole.specs.Round.{hundredthUp}
-use Rattle.days.specs.Days.{rising, isWeekend, isException, isWorking, firstWorking, lastWorking}
-use Rattle.calendar.specs.Months.{isCode, monthOf, codeOf, monthLength, firstDay, thirdWednesday, settlementDay, lastTradingDay}
-use Rattle.calendar.specs.Listing.{listing}
-use Rattle.calendar.specs.Choosing.{considered}
-use Rattle.calendar.specs.ChoosingLaws.{chosenAfter, computed-listing}
-use Rattle.calendar.specs.Examples.{plain}
-use Rattle.fields.specs.Fold.{folded, unfolded}
-use Rattle.fields.specs.Fields.{ceilings, kinds, allWithin}
 use Rattle.records.specs.Records.{Entry}
-use Rattle.tallies.specs.Means.{meanOf, total}
-use Rattle.tallies.specs.Tally.{tallyFrom}
-use Rattle.rates.specs.Rules.{ruleAt}
-use Rattle.rates.specs.Settling.{settledFrom}
-use Rattle.positions.specs.Totals as positions
-use Rattle.positions.specs.Variation.{variationAt, variation}
-use Rattle.positions.specs.Carried.{allCarried}
-use Rattle.holdings.specs.Holdings.{newHoldings}
-use Rattle.holdings.specs.Limits.{totalsOf, isOver}
-use Rattle.closing.specs.DayEnd.{atClose, overLimit, requirement, withCore}
-use Rattle.funds.specs.Funds as funds
-use Rattle.accounts.specs.Accounts.{closed}
-use Rattle.model.specs.Book.{isListed, new}
-use Rattle.model.specs.Calls.{Trade, callOf}
-use Rattle.model.specs.Effects.{after}
-use Rattle.model.specs.Refusals.{firstOf, refusal}
+use Rattle.model.specs.Book.{isListed}
+use Rattle.model.specs.Calls.{Trade}
 use Rattle.model.specs.History as history
 use Rattle.model.specs.History.{run, log, booked, movedTo, hasEnded}
-use Rattle.model.specs.CourseLaws.{enrols, paysIn, opens, trades, settles, closes, afterAll, stepsOf, refusals, Course, Runs, further, further-runs, opened, opened-runs, start, atStart, start-runs}
+use Rattle.model.specs.Entries.{enrols, paysIn, trades, settles, closes}
+use Rattle.model.specs.Examples.{start, openOn}
 
 -- ---- the calls, the latest first
 -- the second account has too little for the requirement of its limit
-abbrev enrolAndPay : List Entry
+abbrev pub enrolAndPay : List Entry
 enrolAndPay = paysIn 2 20000000 ∷ paysIn 1 100000000 ∷ enrols 2 10 0 ∷ enrols 1 10 0 ∷ []
 
-abbrev openOn : ℕ → Entry
-openOn day = opens day (pos 23000) 3000000
-
 -- on day 1357, the last trading day of 2309, at a final rate 100 above the traded one
-abbrev lastDay : List Entry
+abbrev pub lastDay : List Entry
 lastDay = closes (pos 23200) ∷ trades 34200 2309 1 2 4 (pos 23100) ∷ settles ∷ []
 
-abbrev payAndClose : List Entry
+abbrev pub payAndClose : List Entry
 payAndClose = closes (pos 0) ∷ paysIn 2 20000000 ∷ []
 
 abbrev pub listed : List Entry
@@ -72,82 +39,7 @@ inDefault = settles ∷ rolled
 abbrev pub life : List Entry
 life = settles ∷ openOn 1359 ∷ (payAndClose ++ inDefault)
 
--- ---- part by part: each call passes
-abbrev through1357 : List ℕ
-through1357 = 2309 ∷ 2310 ∷ 2311 ∷ 2312 ∷ 2403 ∷ 2406 ∷ []
-
-abbrev from1358 : List ℕ
-from1358 = 2310 ∷ 2311 ∷ 2312 ∷ 2403 ∷ 2406 ∷ 2409 ∷ []
-
-listing-1357 : listing plain 1357 ≡ record { known = true; codes = through1357 }
-unfolding isWorking isException isWeekend firstWorking codeOf monthLength firstDay thirdWednesday settlementDay considered chosenAfter
-listing-1357 = sym (computed-listing plain 1357 54 (omega arith) refl)
-
-listing-1358 : listing plain 1358 ≡ record { known = true; codes = from1358 }
-unfolding isWorking isException isWeekend firstWorking codeOf monthLength firstDay thirdWednesday settlementDay considered chosenAfter
-listing-1358 = sym (computed-listing plain 1358 57 (omega arith) refl)
-
-listing-1359 : listing plain 1359 ≡ record { known = true; codes = from1358 }
-unfolding isWorking isException isWeekend firstWorking codeOf monthLength firstDay thirdWednesday settlementDay considered chosenAfter
-listing-1359 = sym (computed-listing plain 1359 57 (omega arith) refl)
-
-abbrev atPay : Course
-atPay = further enrolAndPay atStart
-
-pay-runs : Runs atPay
-unfolding has all rising ceilings kinds allWithin funds.newFunds funds.paidIn new callOf after afterAll firstOf refusal refusals
-pay-runs = further-runs enrolAndPay atStart start-runs refl
-
-abbrev at1357 : Course
-at1357 = opened through1357 1357 (pos 23000) 3000000 atPay
-
-runs-1357 : Runs at1357
-unfolding all rising isWeekend isException isWorking folded unfolded ceilings kinds allWithin callOf after afterAll firstOf refusal
-runs-1357 = opened-runs through1357 1357 (pos 23000) 3000000 atPay pay-runs listing-1357 (rw listing-1357)
-
-abbrev atEnd : Course
-atEnd = further lastDay at1357
-
-end-runs : Runs atEnd
-unfolding has placeOf all zipped sumZ rising folded unfolded ceilings kinds allWithin positions.total newHoldings totalsOf isOver funds.newFunds funds.paidUp funds.settled funds.paidIn new callOf after afterAll firstOf refusal refusals
-end-runs = further-runs lastDay at1357 runs-1357 refl
-
-abbrev at1358 : Course
-at1358 = opened from1358 1358 (pos 23000) 3000000 atEnd
-
-runs-1358 : Runs at1358
-unfolding all rising isWeekend isException isWorking firstWorking folded unfolded ceilings kinds allWithin callOf after afterAll firstOf refusal
-runs-1358 = opened-runs from1358 1358 (pos 23000) 3000000 atEnd end-runs listing-1358 (rw listing-1358)
-
-abbrev atDefault : Course
-atDefault = further (settles ∷ []) at1358
-
-default-runs : Runs atDefault
-unfolding all rising kinds allWithin callOf afterAll firstOf refusal refusals
-default-runs = further-runs (settles ∷ []) at1358 runs-1358 refl
-
-abbrev atPaid : Course
-atPaid = further payAndClose atDefault
-
-paid-runs : Runs atPaid
-unfolding has placeOf all zipped sumZ those larger hundredthUp folded unfolded isWeekend isException isWorking firstWorking lastWorking isCode monthOf monthLength firstDay thirdWednesday settlementDay lastTradingDay meanOf total tallyFrom ruleAt settledFrom positions.total variationAt variation allCarried newHoldings atClose overLimit requirement funds.newFunds funds.billed funds.paidUp funds.inDefault funds.settled funds.paidIn closed rising ceilings kinds allWithin new callOf after afterAll firstOf refusal refusals
-paid-runs = further-runs payAndClose atDefault default-runs refl
-
-abbrev at1359 : Course
-at1359 = opened from1358 1359 (pos 23000) 3000000 atPaid
-
-runs-1359 : Runs at1359
-unfolding all rising isWeekend isException isWorking firstWorking folded unfolded ceilings kinds allWithin callOf after afterAll firstOf refusal
-runs-1359 = opened-runs from1358 1359 (pos 23000) 3000000 atPaid paid-runs listing-1359 (rw listing-1359)
-
-abbrev atCure : Course
-atCure = further (settles ∷ []) at1359
-
-cure-runs : Runs atCure
-unfolding all rising kinds allWithin callOf afterAll firstOf refusal refusals
-cure-runs = further-runs (settles ∷ []) at1359 runs-1359 refl
-
--- ---- the theorem
+-- ---- what comes of them
 abbrev theTrade : Trade
 theTrade = record { time = 34200; code = 2309; buyer = 1; seller = 2; lots = 4; rate = pos 23100 }
 
@@ -170,15 +62,3 @@ pub record Alive : Type 0 where
       (isListed (run listed) 2309 ≡ true) × (hasEnded 2309 (log ended) ≡ true) × (isListed (run rolled) 2309 ≡ false)
   -- another is listed
   pub lists : (isListed (run ended) 2409 ≡ false) × (isListed (run rolled) 2409 ≡ true)
-
-pub alive : Alive
-unfolding has placeOf zipped sumZ those larger hundredthUp folded unfolded isWeekend isException isWorking firstWorking lastWorking isCode monthOf monthLength firstDay thirdWednesday settlementDay lastTradingDay meanOf total tallyFrom ruleAt settledFrom positions.total variationAt variation allCarried newHoldings atClose overLimit requirement withCore funds.newFunds funds.billed funds.paidUp funds.inDefault funds.settled funds.paidIn closed new callOf after afterAll stepsOf history.trades booked movedTo hasEnded
-alive = record {
-  trades-one = rw (end-runs .logs);
-  books = rw (end-runs .logs) (refl, refl);
-  moves = rw (default-runs .logs, cure-runs .logs) (refl, refl);
-  defaults = rw (runs-1358 .books, default-runs .books, cure-runs .books) (refl, refl, refl);
-  house = rw (default-runs .books, cure-runs .books) (refl, refl);
-  ends = rw (runs-1357 .books, end-runs .logs, runs-1358 .books) (refl, refl, refl);
-  lists = rw (end-runs .books, runs-1358 .books) (refl, refl);
-}

@@ -1,13 +1,15 @@
 -- What an accepted close answers and books: by the rules on the day's lists, by document 01's formula on the day's trades, and line by line.
 use mathlib.Core.Path.{_≡_, refl, sym, _∙_, ap, ap₂, subst}
-use mathlib.Core.Bool.{true, false}
+use mathlib.Core.Bool.{Bool, true, false, not, cond}
 use mathlib.Core.List.{List, [], _∷_, map}
 use Prim.Native.Nat.{ℕ}
-use borrow.Author.Tests.{not-true, eq-eqb}
+use native.Mathlib.Nat.{zero-mul}
+use borrow.Author.Tests.{not-true, not-false, eq-eqb}
 use lib.Dec.{eqb}
 use lib.IntN.{ℤ, pos, negℤ, _+ℤ_, _-ℤ_, _*ℤ_, +ℤ-invr, zero-*ℤ}
 use Rattle.lists.specs.All.{All, none-left, all-last, all-weaken}
-use Rattle.lists.specs.HasLaws.{when-true, when-false, eqb-flip}
+use Rattle.lists.specs.HasLaws.{when-true, when-false, eqb-flip, has-those, those-has}
+use Rattle.lists.specs.Zipped.{zipped, zipped-map}
 use Rattle.whole.specs.Ring.{add-mulℤ}
 use Rattle.whole.specs.Expand.{expand}
 use Rattle.whole.specs.Sums.{sumZ}
@@ -17,23 +19,27 @@ use Rattle.rates.specs.Rules as rules
 use Rattle.rates.specs.RuleLaws.{settles}
 use Rattle.rates.specs.Settling.{settledFrom}
 use Rattle.rates.specs.declared.Settled.{Settled}
-use Rattle.positions.specs.Deals.{Deal, lotsOf, bought, sold}
+use Rattle.positions.specs.Deals.{Deal, lotsOf, bought, sold, flat, overnight}
+use Rattle.positions.specs.Carried.{carried, allCarried}
+use Rattle.positions.specs.Totals.{asked, total}
 use Rattle.positions.specs.Variation.{earned, variationOf, variationAt, variation}
 use Rattle.positions.specs.VariationLaws.{variation-kept}
 use Rattle.closing.specs.DayEnd.{atClose, withCore}
 use Rattle.accounts.specs.Accounts.{closed}
-use Rattle.model.specs.Book.{Book, Held, isMember, isListed}
+use Rattle.model.specs.Book.{Book, Terms, noTerms, Held, isMember, isListed, marginsOf}
 use Rattle.model.specs.Calls.{Call, start, enrol, payIn, payOut, release, setSpecial, setLimits, opening, trade, quote, settle, refresh, close, unknown, Trade, callOf}
-use Rattle.model.specs.Effects.{isEnding, settledAt, markOf, closedDay, after}
+use Rattle.model.specs.Effects.{isEnding, settledAt, markOf, codesLeft, termsLeft, closedDay, after}
 use Rattle.model.specs.Refusals.{tests, refusal}
 use Rattle.model.specs.Answers.{called, answer}
 use Rattle.model.specs.History.{Step, step, run, log, Dated, closedTrades, todaysTrades, todaysQuotes, tradesIn, quotesIn, dealFor, dealsOf, ownTrades, variationIn}
+use Rattle.model.specs.SumLaws.{over-left}
 use Rattle.model.specs.StepLaws.{Passed, needed, induct-tests}
 use Rattle.model.specs.RefusalLaws.{accepted-called, accepted-answer}
 use Rattle.model.specs.TodayLaws.{talliable}
 use Rattle.model.specs.FrameLaws.{framed}
 use Rattle.model.specs.MoneyLaws.{variation-by-code, close-due}
 use Rattle.model.specs.VariationLaws.{worth-sum, position-is, before-is}
+use Rattle.model.specs.Bounds.{totalIn}
 use Rattle.model.specs.Promises.{worthAt, madeToday, carriedOver, amountOf, linesOf, CloseKept}
 
 -- ---- lines
@@ -99,6 +105,28 @@ bill-is : (b : Book) (final : ℤ) (n : ℕ) → isMember b n ≡ true
 unfolding closed atClose withCore
 bill-is b final n m = ap (λ (h : Held). h .variation) (when-true _ _ m) ∙ variation-by-code b final n
 
+-- the day-end total is that of the positions left
+day-end-is : (b : Book) (final : ℤ) (n : ℕ) → isMember b n ≡ true → closedDay b final .accounts .held n .dayend ≡ totalIn (closedDay b final) n
+unfolding closed atClose withCore total allCarried
+day-end-is b final n m =
+    ap (λ (h : Held). h .dayend) (when-true _ _ m)
+    ∙ ap (λ ps. sumZ (zipped asked ps (marginsOf b))) (zipped-map carried (b .accounts .position n) (markOf b final) (b .contracts .codes))
+    ∙ ap sumZ (zipped-map asked (λ c. carried (b .accounts .position n c) (markOf b final c)) (λ c. b .contracts .terms c .margin) (b .contracts .codes))
+    ∙ sym (over-left (λ c. not (isEnding b c)) _ _ (b .contracts .codes) kept gone)
+    ∙ sym (ap sumZ (zipped-map asked (closedDay b final .accounts .position n) (λ c. closedDay b final .contracts .terms c .margin) (codesLeft b)))
+  where
+    kept : (c : ℕ) → not (isEnding b c) ≡ true → isListed b c ≡ true
+        → asked (carried (b .accounts .position n c) (markOf b final c)) (termsLeft b final c .margin)
+        ≡ asked (carried (b .accounts .position n c) (markOf b final c)) (b .contracts .terms c .margin)
+    kept c e on =
+        ap (λ (t : Terms). asked (carried (b .accounts .position n c) (markOf b final c)) (t .margin))
+        (when-true _ noTerms (has-those (λ k. not (isEnding b k)) c (b .contracts .codes) ∙ when-true _ false e ∙ on))
+
+    gone : (c : ℕ) → not (isEnding b c) ≡ false → asked (carried (b .accounts .position n c) (markOf b final c)) (b .contracts .terms c .margin) ≡ pos 0
+    gone c e =
+        ap (λ p. asked p (b .contracts .terms c .margin)) (when-true flat (overnight (b .accounts .position n c .net)) (not-false (isEnding b c) e))
+        ∙ ap pos (zero-mul (b .contracts .terms c .margin))
+
 module _ (h : List Entry) (final : ℤ) where
   -- rate, rule and count
   settles-by : (c : ℕ) → settledAt (run h) final c
@@ -134,6 +162,16 @@ closes-kept h e final r q = subst (λ after. CloseKept (run h) after (answer (ru
   settles = λ c on. when-true _ _ on ∙ settles-by h final c;
   books = λ n c on. books-by h final n c on (when-true _ _ on);
   bills = λ n m. (bill-is (run h) final n m, close-due (framed h) n final);
+  nets = λ n c. net-left n c (isEnding (run h) c);
+  day-ends = day-end-is (run h) final;
+  stays = λ c on. let f = those-has _ c (run h .contracts .codes) on in (
+    ap (λ (t : Terms). t .previous) (when-true _ noTerms on) ∙ ap (λ (s : Settled). s .rate) (sym (when-true _ _ (f .0))),
+    ap (λ (t : Terms). t .margin) (when-true _ noTerms on),
+  );
   lines = λ n c on. books-by h final n c on (when-true _ _ on) ∙ sym (lines-sum n c (todaysTrades (log h)) _ _ _);
   two-lines = λ rate. all-weaken (λ d apart. lines-opposite rate (d .deal) apart) (two-sided h);
 })
+  where
+    net-left : (n c : ℕ) (t : Bool) → cond t flat (overnight (run h .accounts .position n c .net)) .net ≡ cond t (pos 0) (run h .accounts .position n c .net)
+    net-left n c true = refl
+    net-left n c false = refl

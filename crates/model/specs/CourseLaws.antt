@@ -11,44 +11,18 @@ use Rattle.days.specs.Days.{rising, isWeekend, isException, isWorking, firstWor
 use Rattle.calendar.specs.Listing.{listing}
 use Rattle.calendar.specs.Examples.{plain}
 use Rattle.fields.specs.Fields.{ceilings, kinds, allWithin}
-use Rattle.fields.specs.Fold.{folded}
 use Rattle.fields.specs.FoldLaws.{unfolded-folded}
-use Rattle.records.specs.Records.{Entry, entry}
+use Rattle.records.specs.Records.{Entry}
 use Rattle.positions.specs.Deals.{flat}
 use Rattle.model.specs.Book.{Book, unsettled, noTally, new, working}
 use Rattle.model.specs.Calls.{Opening, callOf, opening}
 use Rattle.model.specs.Effects.{after, termsAfter}
 use Rattle.model.specs.Refusals.{firstOf, refusal}
 use Rattle.model.specs.Answers.{called, Answer, accepts, answer}
-use Rattle.model.specs.History.{Step, step, run, noted, log}
+use Rattle.model.specs.History.{Step, step, run, noted, log, answersTo}
+use Rattle.model.specs.Entries.{starts, opens}
 use Rattle.model.specs.StepLaws.{Passed, passes}
 use Rattle.model.specs.RefusalLaws.{accepted-called, accepted-answer}
-
--- ---- records, by kind
-abbrev starts : ℕ → ℕ → Entry
-starts reference multiplier = entry 0 (reference ∷ multiplier ∷ 0 ∷ []) []
-
-abbrev pub enrols : ℕ → ℕ → ℕ → Entry
-enrols account limit tolerance = entry 1 (account ∷ limit ∷ tolerance ∷ []) []
-
-abbrev pub paysIn : ℕ → ℕ → Entry
-paysIn account amount = entry 2 (account ∷ amount ∷ []) []
-
--- one list rate and one margin rate for all six
-abbrev pub opens : ℕ → ℤ → ℕ → Entry
-opens day rate margin = entry 7 (day ∷ (replicate 6 (folded rate) ++ replicate 6 margin)) []
-
-abbrev pub trades : ℕ → ℕ → ℕ → ℕ → ℕ → ℤ → Entry
-trades time code buyer seller lots rate = entry 8 (time ∷ code ∷ buyer ∷ seller ∷ lots ∷ folded rate ∷ []) []
-
-abbrev pub quotes : ℕ → ℕ → ℕ → ℤ → Entry
-quotes time code side rate = entry 9 (time ∷ code ∷ side ∷ folded rate ∷ []) []
-
-abbrev pub settles : Entry
-settles = entry 10 [] []
-
-abbrev pub closes : ℤ → Entry
-closes final = entry 12 (folded final ∷ []) []
 
 -- ---- more calls on a book, the latest first
 unfoldable pub afterAll : List Entry → Book → Book
@@ -69,11 +43,6 @@ pub record Course : Type 0 where
   pub calls : List Entry
   pub book : Book
   pub steps : List Step
-
--- what the calls of a list answer, the latest first
-unfoldable pub answersTo : List Entry → List Answer
-answersTo [] = []
-answersTo (e ∷ h) = answer (run h) e ∷ answersTo h
 
 abbrev acceptedAt : Step → Answer
 acceptedAt s = accepts (s .before) (s .call)
@@ -169,12 +138,9 @@ plain-accepted : accepted plain ≡ true
 unfolding isWorking isException isWeekend firstWorking noLongBreak
 plain-accepted = refl
 
-abbrev pub start : List Entry
-start = starts 3000000 100 ∷ []
-
 abbrev pub atStart : Course
-atStart = further start nothing
+atStart = further (starts 3000000 100 ∷ []) nothing
 
 pub start-runs : Runs atStart
 unfolding all rising ceilings kinds allWithin new callOf afterAll firstOf refusal refusals
-start-runs = further-runs start nothing nothing-runs (rw plain-accepted)
+start-runs = further-runs (starts 3000000 100 ∷ []) nothing nothing-runs (rw plain-accepted)

@@ -15,12 +15,17 @@ use Rattle.model.specs.Book.{Book, new, isListed}
 use Rattle.model.specs.Calls.{Call, start, enrol, payIn, payOut, release, setSpecial, setLimits, opening, trade, quote, settle, refresh, close, unknown, Trade, Quote, callOf}
 use Rattle.model.specs.Effects.{paidTo, isEnding, settledAt, markOf}
 use Rattle.model.specs.Refusals.{refusal}
-use Rattle.model.specs.Answers.{called}
+use Rattle.model.specs.Answers.{called, Answer, answer}
 
 -- ---- the book after the calls, and the accepted ones with the book before each
 unfoldable pub run : List Entry → Book
 run [] = new
 run (e ∷ h) = called (run h) e
+
+-- what the calls of a list answer, the latest first
+unfoldable pub answersTo : List Entry → List Answer
+answersTo [] = []
+answersTo (e ∷ h) = answer (run h) e ∷ answersTo h
 
 pub record Step : Type 0 where
   pub before : Book

@@ -6,6 +6,9 @@ pub mod Answers
 pub mod History
 pub mod Bounds
 pub mod Promises
+pub mod Entries
+pub mod Examples
+pub mod Alive
 pub mod SumLaws
 pub mod StepLaws
 pub mod RefusalLaws
@@ -28,5 +31,5 @@ pub mod HeldLaws
 pub mod BoundLaws
 pub mod PromiseLaws
 pub mod CourseLaws
-pub mod Examples
-pub mod Alive
+pub mod ExampleLaws
+pub mod AliveLaws

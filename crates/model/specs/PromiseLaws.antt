@@ -6,7 +6,7 @@ use Rattle.model.specs.Promises.{Promises}
 use Rattle.model.specs.RefusalLaws.{refused-same, without-refused}
 use Rattle.model.specs.TradeLaws.{trades-kept}
 use Rattle.model.specs.ListedLaws.{opens, ended-for-good}
-use Rattle.model.specs.VariationLaws.{trade-by-trade}
+use Rattle.model.specs.VariationLaws.{trade-by-trade, net-is}
 use Rattle.model.specs.ZeroLaws.{lots-cancel, variation-cancels}
 use Rattle.model.specs.MoneyLaws.{money-stays, house-owes, house-unpaid, all-contracts}
 use Rattle.model.specs.CloseLaws.{closes-kept}
@@ -16,13 +16,14 @@ use Rattle.model.specs.BoundLaws.{bounds}
 pub promises : (h : List Entry) → Promises h
 promises h = record {
   trade-by-trade = trade-by-trade h;
+  nets = net-is h;
   lots-cancel = lots-cancel h;
   variation-cancels = variation-cancels h;
   money-stays = money-stays h;
   house-owes = house-owes h;
   house-unpaid = house-unpaid h;
   all-contracts = all-contracts h;
-  trades = trades-kept (run h);
+  deals = trades-kept (run h);
   closes = closes-kept h;
   refusals = refused-same (run h);
   without-refused = without-refused h;

@@ -23,7 +23,7 @@ use Rattle.model.specs.Calls.{Trade, Opening, callOf, opening, trade, cl
 use Rattle.model.specs.Effects.{codesOn, isEnding}
 use Rattle.model.specs.Refusals.{refusal}
 use Rattle.model.specs.Answers.{called, Answer, answer, refused, bothSides, report, reportOf}
-use Rattle.model.specs.History.{Step, run, log, acceptedOf, Dated, closedTrades, todaysTrades, todaysQuotes, tradesIn, quotesIn, ownTrades, dealFor, dealsOf, booked, bookedTo, latest, hasEnded, paidIn, paidOut, movedTo, variationIn}
+use Rattle.model.specs.History.{Step, run, log, acceptedOf, Dated, trades, closedTrades, todaysTrades, todaysQuotes, tradesIn, quotesIn, ownTrades, dealFor, dealsOf, booked, bookedTo, latest, hasEnded, paidIn, paidOut, movedTo, variationIn}
 use Rattle.model.specs.Bounds.{totalIn, limitIn, Bounded, SumsFit}
 
 -- "one rate unit on one lot is 250 fen exactly": signed lots x 250 x (rate - traded rate)
@@ -80,6 +80,13 @@ pub record CloseKept (b after : Book) (a : Answer) (l : List Step) (final : ℤ)
   pub bills : (n : ℕ) → isMember b n ≡ true
       → (after .accounts .held n .variation ≡ sumOver (variationIn b final n) (b .contracts .codes))
       × (after .accounts .funds n .due ≡ b .accounts .funds n .due +ℤ sumOver (variationIn b final n) (b .contracts .codes))
+  -- "an ending contract's positions become zero; then day-end total at the positions left"
+  pub nets : (n c : ℕ) → after .accounts .position n c .net ≡ cond (isEnding b c) (pos 0) (b .accounts .position n c .net)
+  pub day-ends : (n : ℕ) → isMember b n ≡ true → after .accounts .held n .dayend ≡ totalIn after n
+  -- who stays is marked from the new rate on, at its margin rate
+  pub stays : (c : ℕ) → isListed after c ≡ true
+      → (after .contracts .terms c .previous ≡ after .results .settled c .rate)
+      × (after .contracts .terms c .margin ≡ b .contracts .terms c .margin)
   -- the desk's lines
   pub lines : (n c : ℕ) → isListed b c ≡ true
       → variationIn b final n c
@@ -93,6 +100,8 @@ pub record Promises (h : List Entry) : Type 0 where
   -- 1. "the variation booked to an account in a contract is what its accepted trades of closed days earn, trade by trade, at the latest
   -- settlement rate"
   pub trade-by-trade : (n c : ℕ) → booked n c (log h) ≡ sumOver (worthAt (latest c (log h))) (dealsOf n c (closedTrades (log h)))
+  -- "Buyer's net up, seller's down": a listed contract's net is that of all accepted trades, an unlisted one's is zero
+  pub nets : (n c : ℕ) → run h .accounts .position n c .net ≡ cond (isListed (run h) c) (lotsOf (dealsOf n c (trades (log h)))) (pos 0)
   -- 2. "per contract, lots and variation sum to zero over accounts"
   pub lots-cancel : (c : ℕ) → sumOver (λ n. run h .accounts .position n c .net) (run h .accounts .members) ≡ pos 0
   pub variation-cancels : (c : ℕ) → sumOver (λ n. booked n c (log h)) (run h .accounts .members) ≡ pos 0
@@ -105,7 +114,7 @@ pub record Promises (h : List Entry) : Type 0 where
   pub house-unpaid : run h .house ≡ sumOver (λ n. bookedTo n (log h) -ℤ movedTo n (log h)) (run h .accounts .members)
   pub all-contracts : (n : ℕ) → bookedTo n (log h) ≡ sumZ (tab (λ c. booked n c (log h)) 10000)
   -- 4. "no accepted trade lifts a total above both its limit and the total before"
-  pub trades : (e : Entry) (t : Trade) → refusal (run h) e ≡ 0 → callOf e ≡ trade t
+  pub deals : (e : Entry) (t : Trade) → refusal (run h) e ≡ 0 → callOf e ≡ trade t
       → TradeKept (run h) (called (run h) e) (answer (run h) e) t
   -- 5 and 8. rates, rules, counts, variation and its lines
   pub closes : (e : Entry) (final : ℤ) → refusal (run h) e ≡ 0 → callOf e ≡ close final

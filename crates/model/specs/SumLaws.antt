@@ -1,13 +1,14 @@
 -- Sums over the members of a book, and over codes: a list with no number twice.
 use mathlib.Core.Path.{_≡_, refl, sym, _∙_, ap, ap₂, subst}
-use mathlib.Core.Bool.{true, false, cond}
+use mathlib.Core.Bool.{Bool, true, false, cond, _||_}
 use mathlib.Core.List.{List, [], _∷_, _++_}
 use Prim.Native.Nat.{ℕ}
-use borrow.Author.Tests.{eqb-true}
+use borrow.Author.Tests.{eqb-true, eq-eqb}
 use lib.Dec.{eqb}
 use lib.IntN.{ℤ, pos, _+ℤ_, _-ℤ_, _*ℤ_, *ℤ-zero, +ℤ-idl, +ℤ-idr}
 use Rattle.lists.specs.Has.{has}
-use Rattle.lists.specs.HasLaws.{byTest, clash, when-true, when-false, neither, or-skip, eqb-flip, has-append, has-apart, Distinct}
+use Rattle.lists.specs.HasLaws.{byTest, clash, when-true, when-false, neither, or-right, or-skip, eqb-flip, has-append, has-apart, Distinct}
+use Rattle.lists.specs.Those.{those}
 use Rattle.whole.specs.Sums.{sumZ}
 use Rattle.whole.specs.Over.{sumOver, over-last, over-ext, over-add, over-sub, over-scale, over-none}
 
@@ -28,6 +29,17 @@ over-only k x [] d h = clash h refl
 over-only k x (n ∷ ns) d h = byTest (eqb n k)
     (λ e. ap₂ _+ℤ_ (when-true x (pos 0) e) (over-away k x ns (subst (λ t. has t ns ≡ false) (eqb-true n k e) (d .0))) ∙ +ℤ-idr x)
     (λ e. ap₂ _+ℤ_ (when-false x (pos 0) e) (over-only k x ns (d .1) (or-skip (eqb k n) (has k ns) (eqb-flip k n ∙ e) h)) ∙ +ℤ-idl x)
+
+-- those that pass a test, where the others are 0
+pub over-left : (p : ℕ → Bool) (f g : ℕ → ℤ) (cs : List ℕ) → ((c : ℕ) → p c ≡ true → has c cs ≡ true → f c ≡ g c) → ((c : ℕ) → p c ≡ false → g c ≡ pos 0)
+    → sumOver f (those p cs) ≡ sumOver g cs
+unfolding sumZ those has
+over-left p f g [] same none = refl
+over-left p f g (c ∷ cs) same none =
+    let rest = over-left p f g cs (λ k e m. same k e (or-right (eqb k c) (has k cs) m)) none in
+    byTest (p c)
+    (λ e. rw e (ap₂ _+ℤ_ (same c e (ap (λ t. t || has c cs) (eq-eqb c c refl))) rest))
+    (λ e. rw (e, none c e) (rest ∙ sym (+ℤ-idl (sumOver g cs))))
 
 -- ---- a quantity that is 0 away from the list, and its sum over the list
 pub record Total (ms : List ℕ) (f : ℕ → ℤ) (s : ℤ) : Type 0 where

@@ -290,3 +290,15 @@ position-is h n c = cell n c h .position
 pub before-is : (h : List Entry) (n c : ℕ) → isListed (run h) c ≡ true
     → run h .accounts .position n c .before ≡ lotsOf (dealsOf n c (closedTrades (log h)))
 before-is h n c e = cell n c h .before e
+
+-- so that a net is that of all accepted deals while its code is listed
+pub net-is : (h : List Entry) (n c : ℕ)
+    → run h .accounts .position n c .net ≡ cond (isListed (run h) c) (lotsOf (dealsOf n c (trades (log h)))) (pos 0)
+net-is h n c = byTest (isListed (run h) c)
+    (λ e.
+    ap (λ p. p .net) (position-is h n c)
+    ∙ ap (λ b. b +ℤ lotsOf (dealsOf n c (todaysTrades (log h)))) (before-is h n c e)
+    ∙ sym (lots-append (dealsOf n c (closedTrades (log h))) (dealsOf n c (todaysTrades (log h))))
+    ∙ ap lotsOf (sym (deals-append n c (closedTrades (log h)) (todaysTrades (log h))) ∙ ap (dealsOf n c) (sym (trades-split (log h))))
+    ∙ sym (when-true _ (pos 0) e))
+    (λ e. ap (λ p. p .net) (cell n c h .gone e) ∙ sym (when-false _ (pos 0) e))
