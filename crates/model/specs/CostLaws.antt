@@ -8,7 +8,7 @@ use native.Mathlib.Omega.{arith}
 use borrow.Author.Tests.{eqb-true, ltb-false}
 use lib.Dec.{eqb}
 use lib.IntN.{ℤ, pos, natAbs, negℤ, _+ℤ_, _-ℤ_, +ℤ-invr}
-use Rattle.lists.specs.HasLaws.{byTest, cond-same, Distinct}
+use Rattle.lists.specs.HasLaws.{byTest, Distinct}
 use Rattle.lists.specs.Keep.{cond-keeps}
 use Rattle.whole.specs.Parts.{parts₃, ring, zarith}
 use Rattle.whole.specs.Within.{Within, natAbs-neg-pos, lit, within-+, within-*}
@@ -18,7 +18,7 @@ use Rattle.positions.specs.Totals.{isBeyond}
 use Rattle.positions.specs.declared.Position.{Position}
 use Rattle.model.specs.Calls.{Trade}
 use Rattle.model.specs.Effects.{lotsFor}
-use Rattle.model.specs.FrameLaws.{dealt-none, bystander}
+use Rattle.model.specs.FrameLaws.{bystander-still}
 use Rattle.model.specs.NaturalLaws.{totalOver, total-more, total-each, total-last, total-sizes-of, onlyAt, total-only}
 use Rattle.model.specs.RangeLaws.{GoodTrade}
 use Rattle.model.specs.SizedLaws.{Dealt}
@@ -156,12 +156,9 @@ module _ (t : Trade) (g : GoodTrade t) (p : ℕ → ℕ → Position) where
           (λ s. rw (eqb-true c (t .code) s) (record { size = ltb-false 20000 _ h }))
           (λ s. rw s (i .nets n c))
 
-      still : (n c : ℕ) → eqb n (t .buyer) ≡ false → eqb n (t .seller) ≡ false → now n c ≡ p n c
-      still n c s u = cond-same (eqb c (t .code)) (ap (λ l. dealt (p n c) l (t .rate)) (bystander t n s u) ∙ dealt-none (p n c) (t .rate))
-
       near : (n c : ℕ) → Within 20000 (now n c .net)
       near n c = byTest (eqb n (t .buyer))
           (λ s. rw (eqb-true n (t .buyer) s) (small (t .buyer) buyer c))
           (λ s. byTest (eqb n (t .seller))
           (λ u. rw (eqb-true n (t .seller) u) (small (t .seller) seller c))
-          (λ u. rw (still n c s u) (i .nets n c)))
+          (λ u. rw (bystander-still t (p n c) n c s u) (i .nets n c)))

@@ -11,16 +11,16 @@ use lib.IntN.{natAbs}
 use Rattle.lists.specs.HasLaws.{clash}
 use Rattle.lists.specs.Keep.{cond-keeps}
 use Rattle.whole.specs.Sizes.{sizes}
-use Rattle.funds.specs.Funds.{newFunds, paidUp, inDefault, settled}
+use Rattle.funds.specs.Funds.{newFunds, settled}
 use Rattle.funds.specs.Bounds.{Sound, Billed}
 use Rattle.funds.specs.BoundLaws.{new-billed, sound-later, settled-sound}
-use Rattle.funds.specs.FundsLaws.{settled-keeps}
 use Rattle.funds.specs.declared.Funds.{Funds}
 use Rattle.model.specs.Book.{Today, replaced}
 use Rattle.model.specs.Refusals.{isSettled}
 use Rattle.model.specs.Bounds.{allBooked}
+use Rattle.model.specs.MoneyLaws.{settled-due}
 use Rattle.model.specs.NaturalLaws.{totalOver, total-more, total-each, total-last, total-sizes}
-use Rattle.model.specs.SizedLaws.{daysOf, Funded}
+use Rattle.model.specs.SizedLaws.{daysOf, Funded, unpaid}
 
 abbrev duesOf : List ℕ → (ℕ → Funds) → ℕ
 duesOf ms f = sizes (map (λ n. f n .due) ms)
@@ -37,12 +37,8 @@ dues-same ms f g h =
     omega (arith, dues-more ms f g (λ n. 0) (λ n. omega (arith, h n)), total-each 0 (λ n. 0) ms (λ (n : ℕ). zero-le))
 
 -- a settlement pays what is due, or leaves it
-settled-due : (x : Funds) → natAbs (settled x .funds .due) ≤ natAbs (x .due)
-unfolding paidUp inDefault
-settled-due x = settled-keeps (λ s. natAbs (s .funds .due) ≤ natAbs (x .due)) x
-    (λ free. zero-le)
-    (λ free covered. zero-le)
-    (λ free short. le-refl _)
+due-no-larger : (x : Funds) → natAbs (settled x .funds .due) ≤ natAbs (x .due)
+due-no-larger x = rw (settled-due x) (unpaid x)
 
 -- ---- another day, before which no fewer may have been closed
 module _ {t : Today} {ms : List ℕ} {f : ℕ → Funds} (i : Funded t ms f) where
@@ -95,7 +91,7 @@ module _ {t : Today} {ms : List ℕ} {f : ℕ → Funds} (i : Funded t ms f) whe
         mul-le-mul-right allBooked h,
         dues-same ms f (λ n. cond (m n) (settled (f n) .funds) (f n))
             (λ n. cond-keeps (λ x. natAbs (x .due) ≤ natAbs (f n .due)) (m n) (settled (f n) .funds) (f n)
-            (λ e. settled-due (f n))
+            (λ e. due-no-larger (f n))
             (λ e. le-refl _)),
       );
     }

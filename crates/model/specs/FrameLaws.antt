@@ -53,8 +53,13 @@ pub dealt-none : (p : Position) (rate : ℤ) → dealt p (pos 0) rate ≡ p
 dealt-none p rate = rw (zero-*ℤ rate, +ℤ-idr (p .net), +ℤ-idr (p .cost))
 
 -- an account that is no side of a trade
-pub bystander : (t : Trade) (n : ℕ) → eqb n (t .buyer) ≡ false → eqb n (t .seller) ≡ false → lotsFor t n ≡ pos 0
+bystander : (t : Trade) (n : ℕ) → eqb n (t .buyer) ≡ false → eqb n (t .seller) ≡ false → lotsFor t n ≡ pos 0
 bystander t n p q = when-false _ _ p ∙ when-false _ _ q
+
+pub bystander-still : (t : Trade) (p : Position) (n c : ℕ) → eqb n (t .buyer) ≡ false → eqb n (t .seller) ≡ false
+    → cond (eqb c (t .code)) (dealt p (lotsFor t n) (t .rate)) p ≡ p
+bystander-still t p n c b s =
+    cond-same (eqb c (t .code)) (ap (λ lots. dealt p lots (t .rate)) (bystander t n b s) ∙ dealt-none p (t .rate))
 
 carried-flat : (m : Mark) → carried flat m ≡ flat
 carried-flat m = cond-same (m .ending) refl
@@ -157,7 +162,7 @@ module _ {b : Book} (i : Framed b) where
   traded-framed t live on buys sells = record {
     once = i .once;
     strangers = i .strangers;
-    strange-positions = λ n c h. cond-same (eqb c (t .code)) (away n c h) ∙ i .strange-positions n c h;
+    strange-positions = λ n c h. away n c h ∙ i .strange-positions n c h;
     unlisted = λ n c h. when-false _ _ (other c h) ∙ i .unlisted n c h;
     unlisted-terms = λ c h. (i .unlisted-terms c h .0, when-false _ _ (other c h) ∙ i .unlisted-terms c h .1);
     shut-tallies = λ h. clash live h;
@@ -168,11 +173,11 @@ module _ {b : Book} (i : Framed b) where
       other : (c : ℕ) → isListed b c ≡ false → eqb c (t .code) ≡ false
       other c h = has-apart c (t .code) (b .contracts .codes) h on
 
-      away : (n c : ℕ) → isMember b n ≡ false → dealt (b .accounts .position n c) (lotsFor t n) (t .rate) ≡ b .accounts .position n c
+      away : (n c : ℕ) → isMember b n ≡ false → traded b t .accounts .position n c ≡ b .accounts .position n c
       away n c h =
-          ap (λ z. dealt (b .accounts .position n c) z (t .rate))
-          (bystander t n (has-apart n (t .buyer) (b .accounts .members) h buys) (has-apart n (t .seller) (b .accounts .members) h sells))
-          ∙ dealt-none (b .accounts .position n c) (t .rate)
+          bystander-still t (b .accounts .position n c) n c
+          (has-apart n (t .buyer) (b .accounts .members) h buys)
+          (has-apart n (t .seller) (b .accounts .members) h sells)
 
   quoted-framed : (q : Quote) → isOpen (b .today .point) ≡ true → isListed b (q .code) ≡ true → Framed (quoted b q)
   quoted-framed q live on = record {

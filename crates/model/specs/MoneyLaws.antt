@@ -52,7 +52,7 @@ module _ (f : Funds) (x : ℤ) where
   release-due = released-keeps (λ p. funds.after f p .due ≡ f .due) f x refl refl (λ room. refl)
 
 -- a settlement takes what it pays from what is due
-settled-due : (f : Funds) → funds.settled f .funds .due ≡ f .due -ℤ funds.settled f .paid
+pub settled-due : (f : Funds) → funds.settled f .funds .due ≡ f .due -ℤ funds.settled f .paid
 settled-due f = less (funds.settled f .paid) (f .due) (funds.settled f .funds .due) (settled-moves f .paid)
   where
     less : (p d e : ℤ) → p ≡ d -ℤ e → e ≡ d -ℤ p

@@ -95,7 +95,7 @@ partly d p h (n ∷ ms) (suc k) =
     apart a b s t = parts₄ a b s t (λ x y z w. simp (x .is, y .is, z .is, w .is, ring) (omega zarith))
 
 -- an account is paid all that is due to it, or nothing
-unpaid : (f : Funds) → natAbs (f .due -ℤ settled f .paid) ≤ natAbs (f .due)
+pub unpaid : (f : Funds) → natAbs (f .due -ℤ settled f .paid) ≤ natAbs (f .due)
 unfolding paidUp inDefault
 unpaid f = settled-keeps (λ s. natAbs (f .due -ℤ s .paid) ≤ natAbs (f .due)) f
     (λ free. rw (+ℤ-invr (f .due)) zero-le)

@@ -7,12 +7,11 @@ use Prim.Native.Nat.{ℕ}
 use borrow.Author.Tests.{eqb-true, not-true}
 use lib.Dec.{eqb}
 use lib.Signed.{_≤ℤ_}
-use Rattle.lists.specs.HasLaws.{byTest, cond-same}
+use Rattle.lists.specs.HasLaws.{byTest}
 use Rattle.whole.specs.Order.{≤ℤ-trans}
 use Rattle.whole.specs.Larger.{larger, larger-above}
 use Rattle.records.specs.Records.{Entry}
 use Rattle.positions.specs.Totals as positions
-use Rattle.positions.specs.Deals.{dealt}
 use Rattle.holdings.specs.Limits.{totalsOf, isOver}
 use Rattle.holdings.specs.LimitLaws.{Allowed, not-over-allowed}
 use Rattle.model.specs.Book.{Book, marginsOf}
@@ -21,7 +20,7 @@ use Rattle.model.specs.Effects.{traded, after}
 use Rattle.model.specs.Refusals.{sideTotals, tests, refusal}
 use Rattle.model.specs.Answers.{called, answer, bothSides}
 use Rattle.model.specs.StepLaws.{Passed, needed, accepted-by}
-use Rattle.model.specs.FrameLaws.{dealt-none, bystander}
+use Rattle.model.specs.FrameLaws.{bystander-still}
 use Rattle.model.specs.RefusalLaws.{accepted-called, accepted-answer}
 use Rattle.model.specs.Bounds.{totalIn, limitIn}
 use Rattle.model.specs.Promises.{sideOf, TradeKept}
@@ -34,10 +33,9 @@ module _ (b : Book) (t : Trade) where
 
   -- whoever is no side has the total that it had
   bystander-total : (n : ℕ) → eqb n (t .buyer) ≡ false → eqb n (t .seller) ≡ false → totalIn (traded b t) n ≡ totalIn b n
-  bystander-total n p q = ap (λ f. positions.total (map f (b .contracts .codes)) (marginsOf b)) (fun-ext still)
-    where
-      still : (c : ℕ) → traded b t .accounts .position n c ≡ b .accounts .position n c
-      still c = cond-same (eqb c (t .code)) (ap (λ z. dealt (b .accounts .position n c) z (t .rate)) (bystander t n p q) ∙ dealt-none (b .accounts .position n c) (t .rate))
+  bystander-total n p q =
+      ap (λ f. positions.total (map f (b .contracts .codes)) (marginsOf b))
+      (fun-ext (λ c. bystander-still t (b .accounts .position n c) n c p q))
 
   lifted : (n : ℕ) → isOver (sideTotals b t n) ≡ false → totalIn (traded b t) n ≤ℤ larger (limitIn b n) (totalIn b n)
   lifted n e = go (not-over-allowed (sideOf b (traded b t) n) (ap isOver (sym (side-is n)) ∙ e))
