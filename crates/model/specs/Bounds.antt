@@ -84,7 +84,8 @@ pub record Bounded (b : Book) : Type 0 where
   pub dues : duesIn b ≤ closedDays (b .today .point) (b .today .day) * allBooked
   pub house : Within (closedDays (b .today .point) (b .today .day) * allBooked) (b .house)
   -- the house while a settlement goes from account to account
-  pub settling : (k : ℕ) → Within (closedDays (b .today .point) (b .today .day) * allBooked) (b .house -ℤ sumOver (paidTo b) (take k (b .accounts .members)))
+  pub settling : (k : ℕ)
+      → Within (closedDays (b .today .point) (b .today .day) * allBooked) (b .house -ℤ sumOver (paidTo b) (take k (b .accounts .members)))
 
 -- ---- over the calendar's life
 -- 'Units and ceilings': "These ceilings let every sum fit signed 64 bits over the calendar's life; show it."
