@@ -1,11 +1,10 @@
 -- Courses: written calls that all pass, with the book and the log after them, so that examples can be computed part by part.
 use mathlib.Core.Path.{_≡_, refl, ap, ap₂, _∙_}
-use mathlib.Core.Bool.{true, cond}
+use mathlib.Core.Bool.{true}
 use mathlib.Core.List.{List, [], _∷_, _++_, map}
 use Prim.Native.Nat.{ℕ}
 use lib.IntN.{ℤ}
 use lib.ListN.{replicate}
-use Rattle.lists.specs.Has.{has}
 use Rattle.lists.specs.Passing.{all}
 use Rattle.days.specs.Days.{rising, isWeekend, isException, isWorking, firstWorking, noLongBreak, accepted}
 use Rattle.calendar.specs.Listing.{listing}
@@ -13,10 +12,9 @@ use Rattle.calendar.specs.Examples.{plain}
 use Rattle.fields.specs.Fields.{ceilings, kinds, allWithin}
 use Rattle.fields.specs.FoldLaws.{unfolded-folded}
 use Rattle.records.specs.Records.{Entry}
-use Rattle.positions.specs.Deals.{flat}
-use Rattle.model.specs.Book.{Book, unsettled, noTally, new, working}
+use Rattle.model.specs.Book.{Book, new, working}
 use Rattle.model.specs.Calls.{Opening, callOf, opening}
-use Rattle.model.specs.Effects.{after, termsAfter}
+use Rattle.model.specs.Effects.{openedWith, after}
 use Rattle.model.specs.Refusals.{firstOf, refusal}
 use Rattle.model.specs.Answers.{called, Answer, accepts, answer}
 use Rattle.model.specs.History.{Step, step, run, noted, log, answersTo}
@@ -88,21 +86,6 @@ further-runs es c r p = all-run es c r (passes (refusals es (c .book)) p)
 -- ---- with an open: the codes that are listed are named
 abbrev openingAt : ℕ → ℤ → ℕ → Opening
 openingAt day rate margin = record { day = day; rates = replicate 6 rate; margins = replicate 6 margin }
-
-abbrev openedWith : List ℕ → Book → Opening → Book
-openedWith codes b o = record {
-  settings = b .settings;
-  today = record { point = unsettled; day = o .day; clock = 0; trades = 0 };
-  contracts = record { codes = codes; terms = termsAfter b codes o; tally = λ c. noTally };
-  results = b .results;
-  accounts = record {
-    members = b .accounts .members;
-    held = b .accounts .held;
-    funds = b .accounts .funds;
-    position = λ n c. cond (has c codes) (b .accounts .position n c) flat;
-  };
-  house = b .house;
-}
 
 abbrev pub opened : List ℕ → ℕ → ℤ → ℕ → Course → Course
 opened codes day rate margin c = record {

@@ -84,11 +84,14 @@ termsAfter b codes o c = cond (has c codes) (cond (isListed b c) (b .contracts .
 abbrev pub codesOn : Book → ℕ → List ℕ
 codesOn b day = listing (working b) day .codes
 
-abbrev pub opened : Book → Opening → Book
-opened b o = withPositions (withDay b
+abbrev pub openedWith : List ℕ → Book → Opening → Book
+openedWith codes b o = withPositions (withDay b
     (record { point = unsettled; day = o .day; clock = 0; trades = 0 })
-    (record { codes = codesOn b (o .day); terms = termsAfter b (codesOn b (o .day)) o; tally = λ c. noTally }))
-    (λ n c. cond (has c (codesOn b (o .day))) (b .accounts .position n c) flat)
+    (record { codes = codes; terms = termsAfter b codes o; tally = λ c. noTally }))
+    (λ n c. cond (has c codes) (b .accounts .position n c) flat)
+
+abbrev pub opened : Book → Opening → Book
+opened b o = openedWith (codesOn b (o .day)) b o
 
 -- ---- trade and quote
 -- "Buyer's net up, seller's down."

@@ -1,0 +1,172 @@
+-- Tables stand for the book after the calls, and what a walk over them prints is what the calls print.
+use mathlib.Core.Path.{_≡_, refl, sym, ap, ap₂, _∙_, fun-ext}
+use mathlib.Core.Bool.{true, false, cond}
+use mathlib.Core.List.{List, [], _∷_, _++_, map, append-nil, append-assoc}
+use Prim.Native.Nat.{ℕ, zero, suc}
+use borrow.Author.Tests.{eqb-true}
+use lib.Dec.{eqb}
+use lib.IntN.{ℤ}
+use Rattle.lists.specs.Has.{has}
+use Rattle.lists.specs.HasLaws.{byTest, when-true, when-false}
+use Rattle.calendar.specs.Listing.{listing}
+use Rattle.records.specs.Records.{Entry}
+use Rattle.tallies.specs.declared.Tally.{Tally}
+use Rattle.rates.specs.declared.Settled.{Settled}
+use Rattle.positions.specs.Deals.{flat}
+use Rattle.positions.specs.declared.Position.{Position}
+use Rattle.funds.specs.Funds.{newFunds}
+use Rattle.funds.specs.declared.Funds.{Funds}
+use Rattle.model.specs.Book.{Book, Settings, Today, Terms, noTerms, noTally, noSettled, Held, noHeld, working, new}
+use Rattle.model.specs.Calls.{Call, Opening, start, enrol, payIn, payOut, release, setSpecial, setLimits, opening, trade, quote, settle, refresh, close, unknown, callOf}
+use Rattle.model.specs.Effects.{openedWith, after}
+use Rattle.model.specs.Refusals.{refusal}
+use Rattle.model.specs.Answers.{called, answer}
+use Rattle.model.specs.History.{run, answersTo}
+use Rattle.model.specs.StepLaws.{induct-tests}
+use Rattle.model.specs.RefusalLaws.{refused-same, accepted-called}
+use Rattle.model.specs.FrameLaws.{framed}
+use Rattle.model.specs.Examples.{Line, ok, not-ok, linesOf, linesTo, printed}
+use Rattle.model.specs.Tabled.{look, Table, book, tabled, moved, walk}
+
+-- ---- a function read off its table
+look-map : {A : Type 0} (f : ℕ → A) (other : A) (keys : List ℕ) (n : ℕ) → look keys (map f keys) other n ≡ cond (has n keys) (f n) other
+unfolding look has
+look-map f other [] n = refl
+look-map f other (k ∷ keys) n = byTest (eqb n k) (λ e. rw e (ap f (sym (eqb-true n k e)))) (λ e. rw e (look-map f other keys n))
+
+look-none : {A : Type 0} (other : A) (keys : List ℕ) (n : ℕ) → look keys [] other n ≡ other
+unfolding look
+look-none other [] n = refl
+look-none other (k ∷ keys) n = refl
+
+look-same : {A : Type 0} (f : ℕ → A) (other : A) (keys : List ℕ) → ((n : ℕ) → has n keys ≡ false → f n ≡ other) → look keys (map f keys) other ≡ f
+look-same f other keys h = fun-ext λ n.
+    look-map f other keys n ∙ byTest (has n keys) (λ e. when-true (f n) other e) (λ e. when-false (f n) other e ∙ sym (h n e))
+
+look-both : (p : ℕ → ℕ → Position) (members codes : List ℕ) → ((n c : ℕ) → has n members ≡ false → p n c ≡ flat)
+    → ((n c : ℕ) → has c codes ≡ false → p n c ≡ flat)
+    → (λ n c. look codes (look members (map (λ n. map (p n) codes) members) [] n) flat c) ≡ p
+look-both p members codes g h = fun-ext λ n. byTest (has n members)
+    (λ e. row n (when-true (map (p n) codes) [] e) ∙ look-same (p n) flat codes (h n))
+    (λ e. row n (when-false (map (p n) codes) [] e) ∙ fun-ext (λ c. look-none flat codes c ∙ sym (g n c e)))
+  where
+    row : (n : ℕ) {ps : List Position} → cond (has n members) (map (p n) codes) [] ≡ ps
+        → look codes (look members (map (λ n. map (p n) codes) members) [] n) flat ≡ look codes ps flat
+    row n e = ap (λ ps. look codes ps flat) (look-map (λ n. map (p n) codes) [] members n ∙ e)
+
+-- ---- the last close answered nothing for other codes
+abbrev Unanswered : Book → Type 0
+Unanswered b = (c : ℕ) → has c (b .results .codes) ≡ false → b .results .settled c ≡ noSettled
+
+unanswered-after : (b : Book) (x : Call) → Unanswered b → Unanswered (after b x)
+unfolding after
+unanswered-after b (start s) i = i
+unanswered-after b (enrol n x) i = i
+unanswered-after b (payIn n x) i = i
+unanswered-after b (payOut n x) i = i
+unanswered-after b (release n x) i = i
+unanswered-after b (setSpecial n x) i = i
+unanswered-after b (setLimits n x) i = i
+unanswered-after b (opening o) i = i
+unanswered-after b (trade t) i = i
+unanswered-after b (quote q) i = i
+unanswered-after b settle i = i
+unanswered-after b refresh i = i
+unanswered-after b (close final) i = λ c e. when-false _ noSettled e
+unanswered-after b unknown i = i
+
+unanswered-new : Unanswered new
+unfolding new
+unanswered-new c e = refl
+
+unanswered : (h : List Entry) → Unanswered (run h)
+unanswered h = induct-tests (λ b l. Unanswered b) unanswered-new (λ b l c p i. unanswered-after b c i) h
+
+-- ---- a book reached by calls is that of its tables
+same-parts : {s : Settings} {t : Today} {cs rs ms : List ℕ} {terms terms′ : ℕ → Terms} {tally tally′ : ℕ → Tally} {settled settled′ : ℕ → Settled}
+    {held held′ : ℕ → Held} {funds funds′ : ℕ → Funds} {position position′ : ℕ → ℕ → Position} {z : ℤ}
+    → terms ≡ terms′ → tally ≡ tally′ → settled ≡ settled′ → held ≡ held′ → funds ≡ funds′ → position ≡ position′
+    → _≡_ {A = Book}
+    (record {
+      settings = s;
+      today = t;
+      contracts = record { codes = cs; terms = terms; tally = tally };
+      results = record { codes = rs; settled = settled };
+      accounts = record { members = ms; held = held; funds = funds; position = position };
+      house = z;
+    })
+    (record {
+      settings = s;
+      today = t;
+      contracts = record { codes = cs; terms = terms′; tally = tally′ };
+      results = record { codes = rs; settled = settled′ };
+      accounts = record { members = ms; held = held′; funds = funds′; position = position′ };
+      house = z;
+    })
+same-parts a b c d e f = rw (a, b, c, d, e, f)
+
+book-tabled : (h : List Entry) → book (tabled (run h)) ≡ run h
+book-tabled h = let b = run h in let i = framed h in
+    same-parts
+    (look-same (b .contracts .terms) noTerms (b .contracts .codes) (λ c e. i .unlisted-terms c e .0))
+    (look-same (b .contracts .tally) noTally (b .contracts .codes) (λ c e. i .unlisted-terms c e .1))
+    (look-same (b .results .settled) noSettled (b .results .codes) (unanswered h))
+    (look-same (b .accounts .held) noHeld (b .accounts .members) (λ n e. i .strangers n e .0))
+    (look-same (b .accounts .funds) newFunds (b .accounts .members) (λ n e. i .strangers n e .1))
+    (look-both (b .accounts .position) (b .accounts .members) (b .contracts .codes) (i .strange-positions) (i .unlisted))
+
+-- ---- what is reached by calls, the latest first: the book as a table, and the lines that are printed
+pub record Reached (h : List Entry) (t : Table) (lines : List Line) : Type 0 where
+  pub books : run h ≡ book t
+  pub prints : printed h ≡ lines
+
+pub reached-none : Reached [] (tabled new) []
+unfolding linesTo answersTo run
+reached-none = record { books = sym (book-tabled []); prints = refl }
+
+run-more : (e : Entry) (h : List Entry) → run (e ∷ h) ≡ called (run h) e
+unfolding run
+run-more e h = refl
+
+reached-one : (e : Entry) (h : List Entry) (t : Table) (lines : List Line) → Reached h t lines
+    → Reached (e ∷ h) (moved (refusal (book t) e) t e) (lines ++ linesOf (e .kind) (answer (book t) e))
+unfolding linesTo answersTo
+reached-one e h t lines r = record {
+  books = go (refusal (book t) e) refl;
+  prints = ap₂ (λ l b. l ++ linesOf (e .kind) (answer b e)) (r .prints) (r .books);
+}
+  where
+    moves : run (e ∷ h) ≡ called (book t) e
+    moves = run-more e h ∙ ap (λ b. called b e) (r .books)
+
+    go : (k : ℕ) → refusal (book t) e ≡ k → run (e ∷ h) ≡ book (moved k t e)
+    go zero p = sym (book-tabled (e ∷ h)) ∙ ap (λ b. book (tabled b)) (moves ∙ accepted-called (book t) e p refl)
+    go (suc n) p = moves ∙ refused-same (book t) e n p .0
+
+-- calls, the earliest first, put on calls, the latest first
+unfoldable pub later : List Entry → List Entry → List Entry
+later [] h = h
+later (e ∷ es) h = later es (e ∷ h)
+
+reached-walk : (es h : List Entry) (t : Table) (lines : List Line) → Reached h t lines
+    → Reached (later es h) (walk es t .table) (lines ++ walk es t .lines)
+unfolding later walk
+reached-walk [] h t lines r = rw append-nil r
+reached-walk (e ∷ es) h t lines r = rw⁻¹ append-assoc
+    (reached-walk es (e ∷ h) (moved (refusal (book t) e) t e) (lines ++ linesOf (e .kind) (answer (book t) e)) (reached-one e h t lines r))
+
+pub reached-part : (es h : List Entry) (t t′ : Table) (lines more : List Line) → Reached h t lines
+    → walk es t ≡ record { lines = more; table = t′ } → Reached (later es h) t′ (lines ++ more)
+reached-part es h t t′ lines more r e = rw e at (reached-walk es h t lines r)
+
+-- ---- one call, where the prover is told what it cannot compute on its way
+module _ (t : Table) (e : Entry) where
+  pub refused-walk : (k : ℕ) → refusal (book t) e ≡ suc k → walk (e ∷ []) t ≡ record { lines = not-ok (e .kind) (suc k) ∷ []; table = t }
+  unfolding walk answer
+  refused-walk k r = rw r
+
+  pub opened-walk : (o : Opening) (codes : List ℕ) → refusal (book t) e ≡ 0 → callOf e ≡ opening o
+      → listing (working (book t)) (o .day) ≡ record { known = true; codes = codes }
+      → walk (e ∷ []) t ≡ record { lines = ok (e .kind) ∷ []; table = tabled (openedWith codes (book t) o) }
+  unfolding walk answer after
+  opened-walk o codes r c q = rw (r, c) (ap (λ l. record { lines = ok (e .kind) ∷ []; table = tabled (openedWith (l .codes) (book t) o) }) q)
