@@ -17,12 +17,11 @@ use Rattle.positions.specs.declared.Position.{Position}
 use Rattle.funds.specs.Funds.{newFunds}
 use Rattle.funds.specs.declared.Funds.{Funds}
 use Rattle.model.specs.Book.{Book, Settings, Today, Terms, noTerms, noTally, noSettled, Held, noHeld, working, new}
-use Rattle.model.specs.Calls.{Call, Opening, start, enrol, payIn, payOut, release, setSpecial, setLimits, opening, trade, quote, settle, refresh, close, unknown, callOf}
+use Rattle.model.specs.Calls.{Opening, opening, callOf}
 use Rattle.model.specs.Effects.{openedWith, after}
 use Rattle.model.specs.Refusals.{refusal}
 use Rattle.model.specs.Answers.{called, answer}
 use Rattle.model.specs.History.{run, answersTo}
-use Rattle.model.specs.StepLaws.{induct-tests}
 use Rattle.model.specs.RefusalLaws.{refused-same, accepted-called}
 use Rattle.model.specs.FrameLaws.{framed}
 use Rattle.model.specs.Examples.{Line, ok, not-ok, linesOf, linesTo, printed}
@@ -54,34 +53,6 @@ look-both p members codes g h = fun-ext λ n. byTest (has n members)
         → look codes (look members (map (λ n. map (p n) codes) members) [] n) flat ≡ look codes ps flat
     row n e = ap (λ ps. look codes ps flat) (look-map (λ n. map (p n) codes) [] members n ∙ e)
 
--- ---- the last close answered nothing for other codes
-abbrev Unanswered : Book → Type 0
-Unanswered b = (c : ℕ) → has c (b .results .codes) ≡ false → b .results .settled c ≡ noSettled
-
-unanswered-after : (b : Book) (x : Call) → Unanswered b → Unanswered (after b x)
-unfolding after
-unanswered-after b (start s) i = i
-unanswered-after b (enrol n x) i = i
-unanswered-after b (payIn n x) i = i
-unanswered-after b (payOut n x) i = i
-unanswered-after b (release n x) i = i
-unanswered-after b (setSpecial n x) i = i
-unanswered-after b (setLimits n x) i = i
-unanswered-after b (opening o) i = i
-unanswered-after b (trade t) i = i
-unanswered-after b (quote q) i = i
-unanswered-after b settle i = i
-unanswered-after b refresh i = i
-unanswered-after b (close final) i = λ c e. when-false _ noSettled e
-unanswered-after b unknown i = i
-
-unanswered-new : Unanswered new
-unfolding new
-unanswered-new c e = refl
-
-unanswered : (h : List Entry) → Unanswered (run h)
-unanswered h = induct-tests (λ b l. Unanswered b) unanswered-new (λ b l c p i. unanswered-after b c i) h
-
 -- ---- a book reached by calls is that of its tables
 same-parts : {s : Settings} {t : Today} {cs rs ms : List ℕ} {terms terms′ : ℕ → Terms} {tally tally′ : ℕ → Tally} {settled settled′ : ℕ → Settled}
     {held held′ : ℕ → Held} {funds funds′ : ℕ → Funds} {position position′ : ℕ → ℕ → Position} {z : ℤ}
@@ -110,7 +81,7 @@ book-tabled h = let b = run h in let i = framed h in
     same-parts
     (look-same (b .contracts .terms) noTerms (b .contracts .codes) (λ c e. i .unlisted-terms c e .0))
     (look-same (b .contracts .tally) noTally (b .contracts .codes) (λ c e. i .unlisted-terms c e .1))
-    (look-same (b .results .settled) noSettled (b .results .codes) (unanswered h))
+    (look-same (b .results .settled) noSettled (b .results .codes) (i .unanswered))
     (look-same (b .accounts .held) noHeld (b .accounts .members) (λ n e. i .strangers n e .0))
     (look-same (b .accounts .funds) newFunds (b .accounts .members) (λ n e. i .strangers n e .1))
     (look-both (b .accounts .position) (b .accounts .members) (b .contracts .codes) (i .strange-positions) (i .unlisted))

@@ -16,7 +16,7 @@ use Rattle.positions.specs.declared.Mark.{Mark}
 use Rattle.holdings.specs.declared.Limits.{Limits}
 use Rattle.funds.specs.Funds.{newFunds}
 use Rattle.funds.specs.declared.Funds.{Funds}
-use Rattle.model.specs.Book.{Book, Settings, Point, unstarted, unopened, unsettled, settledToday, ended, noTerms, noTally, Held, noHeld, isMember, isListed, replaced, new}
+use Rattle.model.specs.Book.{Book, Settings, Point, unstarted, unopened, unsettled, settledToday, ended, noTerms, noTally, noSettled, Held, noHeld, isMember, isListed, replaced, new}
 use Rattle.model.specs.Calls.{Call, start, enrol, payIn, payOut, release, setSpecial, setLimits, opening, trade, quote, settle, refresh, close, unknown, Trade, Quote, Opening}
 use Rattle.model.specs.Effects.{withHeld, started, enrolled, paid, codesOn, opened, lotsFor, traded, quoted, settledUp, isEnding, markOf, codesLeft, closedDay, after}
 use Rattle.model.specs.Refusals.{isStarted, isShut, isOpen, tests}
@@ -32,6 +32,7 @@ pub record Framed (b : Book) : Type 0 where
   pub shut-tallies : isOpen (b .today .point) ≡ false → (c : ℕ) → b .contracts .tally c ≡ noTally
   pub shut-positions : isOpen (b .today .point) ≡ false → (n c : ℕ) → b .accounts .position n c ≡ overnight (b .accounts .position n c .net)
   pub shut-trades : isOpen (b .today .point) ≡ false → b .today .trades ≡ 0
+  pub unanswered : (c : ℕ) → has c (b .results .codes) ≡ false → b .results .settled c ≡ noSettled
 
 -- ---- a new book
 new-framed : Framed new
@@ -45,6 +46,7 @@ new-framed = record {
   shut-tallies = λ h c. refl;
   shut-positions = λ h n c. refl;
   shut-trades = λ h. refl;
+  unanswered = λ c h. refl;
 }
 
 -- ---- what keeps a position as it was
@@ -102,6 +104,7 @@ module _ {b : Book} (i : Framed b) where
     shut-tallies = i .shut-tallies;
     shut-positions = i .shut-positions;
     shut-trades = i .shut-trades;
+    unanswered = i .unanswered;
   }
 
   held-framed : (held : ℕ → Held) → ((n : ℕ) → isMember b n ≡ false → held n ≡ b .accounts .held n) → Framed (withHeld b held)
@@ -114,6 +117,7 @@ module _ {b : Book} (i : Framed b) where
     shut-tallies = i .shut-tallies;
     shut-positions = i .shut-positions;
     shut-trades = i .shut-trades;
+    unanswered = i .unanswered;
   }
 
   started-framed : (s : Settings) → isOpen (b .today .point) ≡ false → Framed (started b s)
@@ -126,6 +130,7 @@ module _ {b : Book} (i : Framed b) where
     shut-tallies = λ h. i .shut-tallies e;
     shut-positions = λ h. i .shut-positions e;
     shut-trades = λ h. i .shut-trades e;
+    unanswered = i .unanswered;
   }
 
   enrolled-framed : (k : ℕ) (x : Limits) → isMember b k ≡ false → Framed (enrolled b k x)
@@ -138,6 +143,7 @@ module _ {b : Book} (i : Framed b) where
     shut-tallies = i .shut-tallies;
     shut-positions = i .shut-positions;
     shut-trades = i .shut-trades;
+    unanswered = i .unanswered;
   }
     where
       apart : (n : ℕ) → has n (b .accounts .members ++ (k ∷ [])) ≡ false → (isMember b n ≡ false) × (eqb n k ≡ false)
@@ -155,6 +161,7 @@ module _ {b : Book} (i : Framed b) where
     shut-tallies = λ h c. refl;
     shut-positions = λ h. clash refl h;
     shut-trades = λ h. refl;
+    unanswered = i .unanswered;
   }
 
   traded-framed : (t : Trade) → isOpen (b .today .point) ≡ true → isListed b (t .code) ≡ true → isMember b (t .buyer) ≡ true
@@ -168,6 +175,7 @@ module _ {b : Book} (i : Framed b) where
     shut-tallies = λ h. clash live h;
     shut-positions = λ h. clash live h;
     shut-trades = λ h. clash live h;
+    unanswered = i .unanswered;
   }
     where
       other : (c : ℕ) → isListed b c ≡ false → eqb c (t .code) ≡ false
@@ -189,6 +197,7 @@ module _ {b : Book} (i : Framed b) where
     shut-tallies = λ h. clash live h;
     shut-positions = λ h. clash live h;
     shut-trades = λ h. clash live h;
+    unanswered = i .unanswered;
   }
 
   settled-framed : Framed (settledUp b)
@@ -201,6 +210,7 @@ module _ {b : Book} (i : Framed b) where
     shut-tallies = λ h. clash refl h;
     shut-positions = λ h. clash refl h;
     shut-trades = λ h. clash refl h;
+    unanswered = i .unanswered;
   }
 
   closed-framed : (final : ℤ) → Framed (closedDay b final)
@@ -215,6 +225,7 @@ module _ {b : Book} (i : Framed b) where
     shut-tallies = λ h c. refl;
     shut-positions = λ h n c. carried-overnight (b .accounts .position n c) (markOf b final c);
     shut-trades = λ h. refl;
+    unanswered = λ c h. when-false _ noSettled h;
   }
     where
       gone : (n c : ℕ) → b .accounts .position n c ≡ flat → carried (b .accounts .position n c) (markOf b final c) ≡ flat
