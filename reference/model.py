@@ -6,7 +6,7 @@ run after a change of the model's definitions; the gate does not run it.
 For each file a spec is written that goes through its records a few at a time. Between them the book stands as a table, which
 the scripts of this folder propose from the records that the output calls accepted. The prover computes each part from the
 table before it, and finds the table after it and the lines of the output, or refuses: a wrong proposal can only make a file
-differ. reference/model has the tables, and the proof that what is printed so is what the model's history of calls prints. A
+differ. crates/tables has the tables, and the proof that what is printed so is what the model's history of calls prints. A
 scratch copy of the repository is proved; the repository stays as it is.
 
 The model has no bytes: a file is computed up to its first bad record.
@@ -27,16 +27,15 @@ from rates import BID, OFFER, Day, Trade, in_last_hour, records_in, verdicts_in
 from records import START, numbers_of
 
 ROOT = Path(__file__).resolve().parent.parent
-SPECS = 'crates/model/specs'
-TABLES = ['Tabled', 'TabledLaws']
+SPECS = 'crates/tables/specs'
 TRIED = 'Tried'
-HEAD = ROOT / f'reference/model/{TRIED}.antt'
+HEAD = ROOT / 'reference/tried.txt'
 
 OPEN, SETTLE, CLOSE = 7, 10, 12
 # Longer parts take longer to compute, shorter ones have more tables to read.
 RECORDS_IN_A_PART = 7
 
-# What the prover must unfold to compute a call. model/Tried.antt imports it.
+# What the prover must unfold to compute a call. tried.txt imports it.
 UNFOLDED = '''
     new has placeOf all zipped those sumZ larger smaller hundredthUp nearestSize withSign rising risingAfter isWeekend
     isException isWorking firstWorking lastWorking isCode monthOf monthLength firstDay thirdWednesday settlementDay
@@ -275,25 +274,17 @@ class Spec:
 
 # ---- the prover
 
-# A copy of the repository with the tables, and what is proved already.
+# A copy of the repository, with what is proved already.
 def prepare(scratch):
     shutil.copy(ROOT / 'crates.txt', scratch)
     for folder in ['crates', 'target']:
         if (ROOT / folder).exists():
             shutil.copytree(ROOT / folder, scratch / folder)
-    for name in TABLES:
-        shutil.copy(ROOT / f'reference/model/{name}.antt', scratch / SPECS)
-    add_module(scratch, *TABLES)
-
-
-def add_module(scratch, *names):
-    with (scratch / SPECS / 'Lib.antt').open('a') as file:
-        file.writelines(f'pub mod {name}\n' for name in names)
 
 
 # The first error that the prover finds, or none.
 def error_in(scratch):
-    run = subprocess.run(['rt', 'dev', 'model'], cwd=scratch, stdout=subprocess.PIPE, stderr=subprocess.STDOUT, text=True)
+    run = subprocess.run(['rt', 'dev', 'tables'], cwd=scratch, stdout=subprocess.PIPE, stderr=subprocess.STDOUT, text=True)
     lines = run.stdout.splitlines()
     if run.returncode not in (0, 1):
         sys.exit(f'rt failed: {run.stdout[-300:]}')
@@ -316,8 +307,9 @@ def difference(scratch, spec, data, output):
 def all_agree(scratch, files):
     prepare(scratch)
     if error := error_in(scratch):
-        sys.exit(f'the model with the tables of reference/model is not proved: {error}')
-    add_module(scratch, TRIED)
+        sys.exit(f'the model and its tables are not proved: {error}')
+    with (scratch / SPECS / 'Lib.antt').open('a') as modules:
+        modules.write(f'pub mod {TRIED}\n')
     agreeing = []
     for name, data, output in files:
         spec = Spec()

@@ -16,16 +16,16 @@ use Rattle.positions.specs.Deals.{flat}
 use Rattle.positions.specs.declared.Position.{Position}
 use Rattle.funds.specs.Funds.{newFunds}
 use Rattle.funds.specs.declared.Funds.{Funds}
 use Rattle.model.specs.Book.{Book, Settings, Today, Terms, noTerms, noTally, noSettled, Held, noHeld, working, new}
 use Rattle.model.specs.Calls.{Opening, opening, callOf}
 use Rattle.model.specs.Effects.{openedWith, after}
 use Rattle.model.specs.Refusals.{refusal}
 use Rattle.model.specs.Answers.{called, answer}
 use Rattle.model.specs.History.{run, answersTo}
 use Rattle.model.specs.RefusalLaws.{refused-same, accepted-called}
 use Rattle.model.specs.FrameLaws.{framed}
 use Rattle.model.specs.Examples.{Line, ok, not-ok, linesOf, linesTo, printed}
-use Rattle.model.specs.Tabled.{look, Table, book, tabled, moved, walk}
+use Rattle.tables.specs.Tables.{look, Table, book, tabled, moved, walk}
 
 -- ---- a function read off its table
 look-map : {A : Type 0} (f : ℕ → A) (other : A) (keys : List ℕ) (n : ℕ) → look keys (map f keys) other n ≡ cond (has n keys) (f n) other
