@@ -14,12 +14,12 @@ use Rattle.lists.specs.Passing.{passing, all}
 use Rattle.lists.specs.Rows.{map-append}
 use Rattle.days.specs.declared.Day.{Day}
 use Rattle.days.specs.declared.Day.the-variants.{On, NoDay}
-use Rattle.days.specs.Days.{rising, risingAfter, nextWorking, isOn, isNoDay}
+use Rattle.days.specs.Days.{rising, risingAfter, nextWorking, accepted, isOn, isNoDay}
 use Rattle.days.specs.DayLaws.{First, Last, first-of, last-of}
 use Rattle.calendar.specs.Months.{codeOf, settlementDay, lastTradingDay, ofMonth, lastTradingOf}
 use Rattle.calendar.specs.Listing.{settlesAfter, isListed, settles, listedMonths, unknown, listing}
-use Rattle.calendar.specs.MonthLaws.{month-of, settles-from, trades-before}
-use Rattle.calendar.specs.ListingLaws.{listed-trades, stays-listed, six-listed, listed-rise, known-settles}
+use Rattle.calendar.specs.MonthLaws.{codes-rise, month-of, settles-from, settles-first, settles-rise, trades-before}
+use Rattle.calendar.specs.ListingLaws.{listed-after, listed-trades, stays-listed, six-listed, listed-rise, known-settles}
 
 -- ---- a rising list has no number twice
 rising-below : (k e : ℕ) (l : List ℕ) → k ≤ e → risingAfter e l ≡ true → has k l ≡ false
@@ -182,3 +182,44 @@ module _ (w : ℕ → Bool) where
       let not-now = eqb-false t (s .0) (rw ends at goes-on) in
       subst (λ x. has x (listing w u .codes) ≡ true) (r .code)
       (runs-code u k′ m (r .below) (month-stays t u m d (s .0) f (r .listed) (r .settled) b (s .1 .1) not-now))
+
+  -- ---- of the codes listed on a day only the first can end on it: each other settles after the first, and that after the day
+  pub only-first : accepted w ≡ true → (t c k : ℕ) (rest : List ℕ) → listing w t .known ≡ true → w t ≡ true
+      → listing w t .codes ≡ c ∷ rest → has k rest ≡ true → isOn t (lastTradingOf w k) ≡ false
+  unfolding has rising
+  only-first accept t c k rest known works e h = byTest (isOn t (lastTradingOf w k)) (λ q. absurd (ends q)) (λ q. q)
+    where
+      first : Runs w t c
+      first = code-runs t known c (ap (has c) e ∙ rw (eq-eqb c c refl))
+
+      other : Runs w t k
+      other = code-runs t known k (ap (has k) e ∙ or-right (eqb k c) (has k rest) h)
+
+      later : c < k
+      later = go (decLt c k)
+        where
+          go : Dec (c < k) → c < k
+          go (yes u) = u
+          go (no u) = clash h (rising-below k c rest (omega arith) (ap rising (sym e ∙ codes-are t known) ∙ listed-rise w t))
+
+      months : first .month < other .month
+      months = go (decLt (first .month) (other .month)) (decLt (other .month) (first .month))
+        where
+          go : Dec (first .month < other .month) → Dec (other .month < first .month) → first .month < other .month
+          go (yes u) v = u
+          go (no u) (yes v) = absurd (omega (arith, later, first .code, other .code, codes-rise (other .month) (first .month) v))
+          go (no u) (no v) =
+              let z : first .month ≡ other .month = omega arith in
+              absurd (omega (arith, later, first .code, other .code, ap codeOf z))
+
+      ends : isOn t (lastTradingOf w k) ≡ true → ⊥
+      ends q =
+          let m = other .month in
+          let s = listed-trades w t m (other .day) works (other .listed) (other .settled) in
+          let on : lastTradingOf w k ≡ On (s .0) = ap (lastTradingOf w) (sym (other .code)) ∙ last-trading m (other .below) ∙ s .1 .0 in
+          let z : t ≡ s .0 = eqb-true t (s .0) (rw on at q) in
+          let b = last-of w (other .day) (s .0) (sym (trades-before w m (other .day) (other .settled)) ∙ s .1 .0) in
+          let f = settles-first w (first .month) (first .day) (first .settled) in
+          let after = listed-after w t (first .month) (first .day) (first .listed) (first .settled) in
+          let before = settles-rise w accept (first .month) m (first .day) (other .day) months (first .settled) (other .settled) in
+          clash (f .works) (b .skips (first .day) (omega arith) before)

@@ -10,16 +10,11 @@ use lib.ListN.{length, getD, drop}
 use borrow.Author.Tests.{le-leb, lt-leb, ne-eqb}
 use Rattle.lists.specs.Table.{every}
 use Rattle.lists.specs.Passing.{all}
+use Rattle.lists.specs.Rows.{getD-map-below}
 use Rattle.fields.specs.declared.ranges.Row.{Row}
 use Rattle.fields.specs.Fields.{Quantity, ceilings, withinCeilings, isZero, kinds, fieldsOf, allWithin}
 use Rattle.fields.specs.FieldLaws.{within-written}
 use Rattle.fields.specs.Cells.{cellWithin, cellsWithin, least, greatest, ends, row}
-
--- an element of a mapped list, whatever stands past its end
-getD-map-below : {X Y : Type 0} (f : X → Y) (l : List X) (i : ℕ) (d : X) (e : Y) → i < length l → getD (map f l) i e ≡ f (getD l i d)
-getD-map-below f [] i d e h = absurd (omega arith)
-getD-map-below f (x ∷ l) zero d e h = refl
-getD-map-below f (x ∷ l) (suc i) d e h = getD-map-below f l i d e (omega arith)
 
 -- ---- ranges as written
 

@@ -85,6 +85,13 @@ those-has p k ns h = byTest (p k)
 pub those-lacks : (p : ℕ → Bool) (k : ℕ) (ns : List ℕ) → has k (those p ns) ≡ false → p k ≡ true → has k ns ≡ false
 those-lacks p k ns h e = sym (when-true (has k ns) false e) ∙ sym (has-those p k ns) ∙ h
 
+-- all pass
+pub those-all : (p : ℕ → Bool) (ns : List ℕ) → ((k : ℕ) → has k ns ≡ true → p k ≡ true) → those p ns ≡ ns
+unfolding has those
+those-all p [] h = refl
+those-all p (n ∷ ns) h =
+    rw (h n (ap (λ t. t || has n ns) (eq-eqb n n refl)), those-all p ns (λ k e. h k (or-right (eqb k n) (has k ns) e)))
+
 -- ---- no number twice
 abbrev pub Distinct : List ℕ → Type 0
 Distinct [] = Unit {0}

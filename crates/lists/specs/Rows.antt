@@ -1,11 +1,12 @@
 -- The first n rows of a table, changed one by one; the others untouched.
 use mathlib.Core.Path.{_≡_, refl, sym, ap, _∙_}
 use mathlib.Core.List.{List, [], _∷_, _++_, map}
-use Prim.Native.Nat.{ℕ, zero, suc, _+_, _<_}
+use Prim.Native.Nat.{ℕ, zero, suc, _+_, _-_, _<_}
 use native.Mathlib.Numerals.{add-one}
 use native.Mathlib.Omega.{arith}
-use lib.ListN.{length, take, drop, getD, set, length-append, length-take, length-drop, length-map}
-use lib.Seq.{drop-cons, take-suc, set-at, getD-at, length-take-le, append-snoc}
+use lib.ListN.{length, take, drop, getD, set, replicate, length-append, length-take, length-drop, length-map}
+use lib.Seq.{drop-cons, take-suc, set-at, getD-at, length-take-le, append-snoc, take-append-seam, drop-append-seam}
+use Rattle.lists.specs.Padded.{padded}
 
 abbrev pub firstRows : {X : Type 0} → (X → X) → ℕ → List X → List X
 firstRows f n l = map f (take n l) ++ drop n l
@@ -18,6 +19,12 @@ pub drop-map : {X Y : Type 0} (f : X → Y) (n : ℕ) (xs : List X) → drop n (
 drop-map f zero xs = refl
 drop-map f (suc n) [] = refl
 drop-map f (suc n) (x ∷ xs) = drop-map f n xs
+
+-- an element of a mapped list, whatever stands past its end
+pub getD-map-below : {X Y : Type 0} (f : X → Y) (l : List X) (i : ℕ) (d : X) (e : Y) → i < length l → getD (map f l) i e ≡ f (getD l i d)
+getD-map-below f [] i d e h = absurd (omega arith)
+getD-map-below f (x ∷ l) zero d e h = refl
+getD-map-below f (x ∷ l) (suc i) d e h = getD-map-below f l i d e (omega arith)
 
 pub map-set : {X Y : Type 0} (f : X → Y) (xs : List X) (i : ℕ) (x : X) → map f (set xs i x) ≡ set (map f xs) i (f x)
 map-set f [] i x = refl
@@ -40,3 +47,16 @@ module _ {X : Type 0} (f : X → X) (l : List X) (i : ℕ) (d : X) (h : i < leng
 
 pub firstRows-length : {X : Type 0} (f : X → X) (l : List X) (i : ℕ) → length (firstRows f i l) ≡ length l
 firstRows-length f l i = rw (length-append (map f (take i l)) (drop i l), length-map (take i l) f, length-take i l, length-drop i l) (omega arith)
+
+-- all rows but the filling
+pub firstRows-padded : {X : Type 0} (f : X → X) (n : ℕ) (d : X) (l : List X) → firstRows f (length l) (padded n d l) ≡ padded n d (map f l)
+firstRows-padded f n d l =
+    rw (take-append-seam l (replicate (n - length l) d), drop-append-seam l (replicate (n - length l) d), length-map l f)
+
+-- what holds of each row and is kept by the change
+pub firstRows-keeps : {X : Type 0} (P : X → Type 0) (d : X) (f : X → X) (n : ℕ) (l : List X) → ((x : X) → P x → P (f x)) → ((k : ℕ) → P (getD l k d))
+    → (k : ℕ) → P (getD (firstRows f n l) k d)
+firstRows-keeps P d f zero l step h k = h k
+firstRows-keeps P d f (suc n) [] step h k = h k
+firstRows-keeps P d f (suc n) (x ∷ l) step h zero = step x (h 0)
+firstRows-keeps P d f (suc n) (x ∷ l) step h (suc k) = firstRows-keeps P d f n l step (λ j. h (suc j)) k

@@ -1,10 +1,10 @@
 -- Search by a number: the first place that holds it, whatever the table's form. `at` reads a place.
-use mathlib.Core.Path.{_≡_, refl}
+use mathlib.Core.Path.{_≡_, refl, ap, _∙_}
 use mathlib.Core.Bool.{Bool, true, false, cond}
 use Prim.Native.Nat.{ℕ, zero, suc, _+_, _-_, _≤_, _<_}
 use native.Mathlib.Omega.{arith}
 use lib.Dec.{eqb}
-use borrow.Author.Tests.{eq-eqb, ne-eqb, eqb-true}
+use borrow.Author.Tests.{eq-eqb, ne-eqb, eqb-true, eqb-false}
 use Rattle.lists.specs.declared.Found.{Found}
 use Rattle.lists.specs.declared.Found.the-variants.{At, Nothing}
 
@@ -57,3 +57,14 @@ seek-hits f n (suc left) i j e = go (eqb (f i) n) refl (seek-hits f n left (i + 
     go : (t : Bool) → eqb (f i) n ≡ t → (seek f n left (i + 1) ≡ At j → f j ≡ n) → cond t (At i) (seek f n left (i + 1)) ≡ At j → f j ≡ n
     go true p ih q = let z : i ≡ j = cc in rw (← z) (eqb-true (f i) n p)
     go false p ih q = ih q
+
+-- where a search found nothing, no place that it went to holds the number
+pub seek-misses : (f : ℕ → ℕ) (n left i j : ℕ) → seek f n left i ≡ Nothing → i ≤ j → j < i + left → f j ≡ n → ⊥
+unfolding seek
+seek-misses f n zero i j e a b q = omega arith
+seek-misses f n (suc left) i j e a b q = go (eqb (f i) n) refl (seek-misses f n left (i + 1) j) e
+  where
+    go : (t : Bool) → eqb (f i) n ≡ t → (seek f n left (i + 1) ≡ Nothing → i + 1 ≤ j → j < (i + 1) + left → f j ≡ n → ⊥)
+        → cond t (At i) (seek f n left (i + 1)) ≡ Nothing → ⊥
+    go true p ih r = let z : _≡_ {A = ℕ} 0 1 = cc in omega arith
+    go false p ih r = ih r (let d : i ≡ j → ⊥ = λ z. eqb-false (f i) n p (ap f z ∙ q) in omega arith) (omega arith) q

@@ -26,6 +26,10 @@ module _ {X : Type 0} where
       go (yes p) ih = List·getD-append (tab f n) _ d i (rw (tab-length f n) p) ∙ ih p
       go (no p) ih = let e : i ≡ n = omega arith in rw e (getD-at (tab f n) (f n) [] d n (tab-length f n))
 
+  -- a list's own elements
+  pub tab-is : (d : X) (f : ℕ → X) (n : ℕ) (l : List X) → length l ≡ n → ((i : ℕ) → i < n → f i ≡ getD l i d) → tab f n ≡ l
+  tab-is d f n l e h = ext-getD d _ _ (tab-length f n ∙ sym e) λ i p. let q : i < n = omega (arith, tab-length f n) in tab-at d f n i q ∙ h i q
+
   -- two functions that agree below n
   pub tab-same : (f g : ℕ → X) (n : ℕ) → ((i : ℕ) → i < n → f i ≡ g i) → tab f n ≡ tab g n
   unfolding tab

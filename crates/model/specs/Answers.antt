@@ -78,7 +78,7 @@ accepts b refresh = done
 accepts b (close final) = report (reportOf (after b (close final)))
 accepts b unknown = done
 
-abbrev answered : ℕ → Book → Call → Answer
+abbrev pub answered : ℕ → Book → Call → Answer
 answered zero b c = accepts b c
 answered (suc n) b c = refused (suc n)
 

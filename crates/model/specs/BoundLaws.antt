@@ -14,6 +14,7 @@ use Rattle.lists.specs.HasLaws.{byTest, clash, or-skip, Distinct}
 use Rattle.lists.specs.Keep.{cond-keeps}
 use Rattle.whole.specs.Within.{Within, wider, lit}
 use Rattle.whole.specs.Sizes.{sizes}
+use Rattle.days.specs.Days.{rising}
 use Rattle.records.specs.Records.{Entry}
 use Rattle.tallies.specs.Day.{inLastHour}
 use Rattle.tallies.specs.Tally.{sideIn}
@@ -50,10 +51,10 @@ shut-unsettled p h = byTest (isSettled p) (λ e. clash (settled-open p e) h) (λ
 
 -- ---- a new book
 new-sized : Sized new
-unfolding new sizes
+unfolding new sizes rising
 new-sized = record {
   today = record { day = zero-le; trades = zero-le };
-  settings = record { reference = zero-le; multiplier = zero-le };
+  settings = record { reference = zero-le; multiplier = zero-le; rises = refl; few = zero-le };
   contracts = tallied-new [] _ (λ c. fair-none);
   members = zero-le;
   held = λ n. none-modest;

@@ -14,6 +14,7 @@ pub mod StepLaws
 pub mod RefusalLaws
 pub mod FrameLaws
 pub mod ListedLaws
+pub mod EndLaws
 pub mod TodayLaws
 pub mod TableLaws
 pub mod ZeroLaws

@@ -28,7 +28,7 @@ use Rattle.model.specs.History.{Step, step, run, log, hasEnded}
 use Rattle.model.specs.Bounds.{closedDays}
 use Rattle.model.specs.Promises.{OpenKept}
 use Rattle.calendar.specs.CodeLaws.{isPast, past-none, past-later, code-below, codes-distinct, codes-length, code-runs, code-lasts, code-stays}
-use Rattle.model.specs.StepLaws.{Passed, needed, accepted-by, induct-tests}
+use Rattle.model.specs.StepLaws.{Passed, needed, accepted-by, induct, induct-tests}
 use Rattle.model.specs.FrameLaws.{Framed, framed}
 use Rattle.model.specs.RefusalLaws.{accepted-called}
 
@@ -191,6 +191,28 @@ codes-six h o =
     let i = listed h in
     ap length (i .lists ∙ open-codes (working (run h)) (run h .today .day) (run h .today .point) o)
     ∙ codes-length (working (run h)) (run h .today .day) (i .known (open-dated (run h .today .point) o))
+
+-- what the last close answered for were the codes listed then
+settled-more : (b : Book) (c : Call) → length (b .contracts .codes) ≤ 6 → length (b .results .codes) ≤ 6 → length (after b c .results .codes) ≤ 6
+unfolding after
+settled-more b (start s) f i = i
+settled-more b (enrol n x) f i = i
+settled-more b (payIn n x) f i = i
+settled-more b (payOut n x) f i = i
+settled-more b (release n x) f i = i
+settled-more b (setSpecial n x) f i = i
+settled-more b (setLimits n x) f i = i
+settled-more b (opening o) f i = i
+settled-more b (trade t) f i = i
+settled-more b (quote q) f i = i
+settled-more b settle f i = i
+settled-more b refresh f i = i
+settled-more b (close final) f i = f
+settled-more b unknown f i = i
+
+pub settled-few : (h : List Entry) → length (run h .results .codes) ≤ 6
+unfolding new
+settled-few = induct (λ b l. length (b .results .codes) ≤ 6) (omega arith) (λ h e a. settled-more (run h) (callOf e) (codes-few h))
 
 pub codes-below : (h : List Entry) (c : ℕ) → has c (run h .contracts .codes) ≡ true → c < 10000
 codes-below h c e =

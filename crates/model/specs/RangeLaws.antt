@@ -11,10 +11,11 @@ use Rattle.lists.specs.Keep.{first-keeps}
 use Rattle.whole.specs.Parts.{parts₁, ring}
 use Rattle.whole.specs.Within.{Within, Each, zbound}
 use Rattle.whole.specs.Amounts.{Amount, amount-pos}
+use Rattle.days.specs.Days.{rising}
 use Rattle.fields.specs.Fold.{unfolded}
 use Rattle.fields.specs.Fields.{Quantity, lots, marginRate, referenceRate, clearingLimit, tolerance, specialMargin, amount, multiplier, day, side, rate, ceilings, withinCeilings, kinds, fieldsOf, count, inRange}
 use Rattle.fields.specs.Cells.{greatest}
-use Rattle.fields.specs.FieldLaws.{InRange, range-tells, refusal-number, within-values, within-ends, shape-tells}
+use Rattle.fields.specs.FieldLaws.{Shaped, InRange, range-tells, refusal-number, within-values, within-ends, shape-tells}
 use Rattle.records.specs.Records.{Entry, entry}
 use Rattle.holdings.specs.Bounds.{Granted}
 use Rattle.model.specs.Book.{Settings}
@@ -30,6 +31,8 @@ pub record EachMost (B : ℕ) (ns : List ℕ) : Type 0 where
 pub record GoodSettings (s : Settings) : Type 0 where
   pub reference : s .reference ≤ 100000000
   pub multiplier : s .multiplier ≤ 1000
+  pub rises : rising (s .exceptions) ≡ true
+  pub few : length (s .exceptions) ≤ 400
 
 pub record GoodOpening (o : Opening) : Type 0 where
   pub day : o .day ≤ 3652
@@ -70,8 +73,8 @@ rate-size n w = let v = within-values rate n w in go (unfolded n) (v .0) (v .1)
     go z = parts₁ z (λ x. simp (x .is, ring) (omega zbound))
 
 module _ {kind : ℕ} {fields exceptions : List ℕ} (i : InRange kind fields exceptions) where
-  below : kind < 13
-  below = shape-tells kind fields (length exceptions) (i .shape) .below
+  shape : Shaped kind fields (length exceptions)
+  shape = shape-tells kind fields (length exceptions) (i .shape)
 
   -- a field with its quantity
   holds : (q : Quantity) (place : ℕ) → place < count kind → getD (fieldsOf kind) place q ≡ q
@@ -94,7 +97,12 @@ most-more {B} {n} {l} h a = record { at = first-keeps (λ k. k ≤ B) 0 n l h (a
 -- ---- by the kind
 by-kind : (kind : ℕ) (fields exceptions : List ℕ) → InRange kind fields exceptions → Ranged (callOf (entry kind fields exceptions))
 unfolding callOf kinds ceilings
-by-kind zero f x i = record { reference = most i referenceRate 0 (omega arith) refl; multiplier = most i multiplier 1 (omega arith) refl }
+by-kind zero f x i = record {
+  reference = most i referenceRate 0 (omega arith) refl;
+  multiplier = most i multiplier 1 (omega arith) refl;
+  rises = i .rises;
+  few = omega (arith, shape i .few, shape i .there);
+}
 by-kind (suc zero) f x i = record {
   clearing = most i clearingLimit 1 (omega arith) refl;
   tolerance = amount-pos _ (most i tolerance 2 (omega arith) refl);
@@ -130,7 +138,7 @@ by-kind (suc (suc (suc (suc (suc (suc (suc (suc (suc (suc zero)))))))))) f x i =
 by-kind (suc (suc (suc (suc (suc (suc (suc (suc (suc (suc (suc zero))))))))))) f x i = tt
 by-kind (suc (suc (suc (suc (suc (suc (suc (suc (suc (suc (suc (suc zero)))))))))))) f x i = rate-at i 0 (omega arith) refl
 by-kind (suc (suc (suc (suc (suc (suc (suc (suc (suc (suc (suc (suc (suc n))))))))))))) f x i =
-    absurd (omega (arith, below i))
+    absurd (omega (arith, shape i .below))
 
 pub ranges : (e : Entry) → ranged e ≡ 0 → Ranged (callOf e)
 ranges e r = by-kind (e .kind) (e .fields) (e .exceptions) (range-tells (e .kind) (e .fields) (e .exceptions) passed)

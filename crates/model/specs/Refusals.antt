@@ -28,7 +28,7 @@ firstOf (zero ∷ rest) = firstOf rest
 firstOf (suc n ∷ rest) = suc n
 
 -- ---- 3, "call not allowed at this point of the day"
-abbrev stage : Point → ℕ
+abbrev pub stage : Point → ℕ
 stage unstarted = 0
 stage unopened = 1
 stage unsettled = 2

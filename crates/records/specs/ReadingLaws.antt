@@ -31,7 +31,7 @@ zeros-after zero i = refl
 zeros-after (suc n) zero = refl
 zeros-after (suc n) (suc i) = zeros-after n i
 
-padded-at : (l : List ℕ) (n i : ℕ) → getD (l ++ replicate n 0) i 0 ≡ getD l i 0
+pub padded-at : (l : List ℕ) (n i : ℕ) → getD (l ++ replicate n 0) i 0 ≡ getD l i 0
 padded-at [] n i = zeros-after n i
 padded-at (x ∷ l) n zero = refl
 padded-at (x ∷ l) n (suc i) = padded-at l n i

@@ -1,13 +1,10 @@
 -- Tables stand for the book after the calls, and what a walk over them prints is what the calls print.
-use mathlib.Core.Path.{_≡_, refl, sym, ap, ap₂, _∙_, fun-ext}
-use mathlib.Core.Bool.{true, false, cond}
-use mathlib.Core.List.{List, [], _∷_, _++_, map, append-nil, append-assoc}
+use mathlib.Core.Path.{_≡_, refl, sym, ap, ap₂, _∙_}
+use mathlib.Core.Bool.{true}
+use mathlib.Core.List.{List, [], _∷_, _++_, append-nil, append-assoc}
 use Prim.Native.Nat.{ℕ, zero, suc}
-use borrow.Author.Tests.{eqb-true}
-use lib.Dec.{eqb}
 use lib.IntN.{ℤ}
-use Rattle.lists.specs.Has.{has}
-use Rattle.lists.specs.HasLaws.{byTest, when-true, when-false}
+use Rattle.lists.specs.LookLaws.{look-same, look-both}
 use Rattle.calendar.specs.Listing.{listing}
 use Rattle.records.specs.Records.{Entry}
 use Rattle.tallies.specs.declared.Tally.{Tally}
@@ -16,7 +13,7 @@ use Rattle.positions.specs.Deals.{flat}
 use Rattle.positions.specs.declared.Position.{Position}
 use Rattle.funds.specs.Funds.{newFunds}
 use Rattle.funds.specs.declared.Funds.{Funds}
-use Rattle.model.specs.Book.{Book, Settings, Today, Terms, noTerms, noTally, noSettled, Held, noHeld, working, new}
+use Rattle.model.specs.Book.{Book, Settings, Today, Terms, noTerms, noTally, noSettled, Held, noHeld, positionsOf, working, new}
 use Rattle.model.specs.Calls.{Opening, opening, callOf}
 use Rattle.model.specs.Effects.{openedWith, after}
 use Rattle.model.specs.Refusals.{refusal}
@@ -25,33 +22,7 @@ use Rattle.model.specs.History.{run, answersTo}
 use Rattle.model.specs.RefusalLaws.{refused-same, accepted-called}
 use Rattle.model.specs.FrameLaws.{framed}
 use Rattle.model.specs.Examples.{Line, ok, not-ok, linesOf, linesTo, printed}
-use Rattle.tables.specs.Tables.{look, Table, book, tabled, moved, walk}
-
--- ---- a function read off its table
-look-map : {A : Type 0} (f : ℕ → A) (other : A) (keys : List ℕ) (n : ℕ) → look keys (map f keys) other n ≡ cond (has n keys) (f n) other
-unfolding look has
-look-map f other [] n = refl
-look-map f other (k ∷ keys) n = byTest (eqb n k) (λ e. rw e (ap f (sym (eqb-true n k e)))) (λ e. rw e (look-map f other keys n))
-
-look-none : {A : Type 0} (other : A) (keys : List ℕ) (n : ℕ) → look keys [] other n ≡ other
-unfolding look
-look-none other [] n = refl
-look-none other (k ∷ keys) n = refl
-
-look-same : {A : Type 0} (f : ℕ → A) (other : A) (keys : List ℕ) → ((n : ℕ) → has n keys ≡ false → f n ≡ other) → look keys (map f keys) other ≡ f
-look-same f other keys h = fun-ext λ n.
-    look-map f other keys n ∙ byTest (has n keys) (λ e. when-true (f n) other e) (λ e. when-false (f n) other e ∙ sym (h n e))
-
-look-both : (p : ℕ → ℕ → Position) (members codes : List ℕ) → ((n c : ℕ) → has n members ≡ false → p n c ≡ flat)
-    → ((n c : ℕ) → has c codes ≡ false → p n c ≡ flat)
-    → (λ n c. look codes (look members (map (λ n. map (p n) codes) members) [] n) flat c) ≡ p
-look-both p members codes g h = fun-ext λ n. byTest (has n members)
-    (λ e. row n (when-true (map (p n) codes) [] e) ∙ look-same (p n) flat codes (h n))
-    (λ e. row n (when-false (map (p n) codes) [] e) ∙ fun-ext (λ c. look-none flat codes c ∙ sym (g n c e)))
-  where
-    row : (n : ℕ) {ps : List Position} → cond (has n members) (map (p n) codes) [] ≡ ps
-        → look codes (look members (map (λ n. map (p n) codes) members) [] n) flat ≡ look codes ps flat
-    row n e = ap (λ ps. look codes ps flat) (look-map (λ n. map (p n) codes) [] members n ∙ e)
+use Rattle.tables.specs.Tables.{Table, book, tabled, moved, walk}
 
 -- ---- a book reached by calls is that of its tables
 same-parts : {s : Settings} {t : Today} {cs rs ms : List ℕ} {terms terms′ : ℕ → Terms} {tally tally′ : ℕ → Tally} {settled settled′ : ℕ → Settled}
@@ -84,7 +55,8 @@ book-tabled h = let b = run h in let i = framed h in
     (look-same (b .results .settled) noSettled (b .results .codes) (i .unanswered))
     (look-same (b .accounts .held) noHeld (b .accounts .members) (λ n e. i .strangers n e .0))
     (look-same (b .accounts .funds) newFunds (b .accounts .members) (λ n e. i .strangers n e .1))
-    (look-both (b .accounts .position) (b .accounts .members) (b .contracts .codes) (i .strange-positions) (i .unlisted))
+    (look-both (b .accounts .position) flat (positionsOf b) (b .accounts .members) (b .contracts .codes) (i .strange-positions)
+    (λ n. look-same (b .accounts .position n) flat (b .contracts .codes) (i .unlisted n)))
 
 -- ---- what is reached by calls, the latest first: the book as a table, and the lines that are printed
 pub record Reached (h : List Entry) (t : Table) (lines : List Line) : Type 0 where

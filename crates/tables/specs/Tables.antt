@@ -1,9 +1,9 @@
 -- A book written as tables, and calls made on it one after the other, so that the prover can compute many of them.
-use mathlib.Core.Bool.{Bool, cond}
+use mathlib.Core.Bool.{Bool}
 use mathlib.Core.List.{List, [], _∷_, _++_, map}
 use Prim.Native.Nat.{ℕ, zero, suc}
-use lib.Dec.{eqb}
 use lib.IntN.{ℤ, pos}
+use Rattle.lists.specs.Look.{look}
 use Rattle.records.specs.Records.{Entry}
 use Rattle.tallies.specs.declared.Weighted.{Weighted}
 use Rattle.tallies.specs.declared.Mean.{Mean}
@@ -22,12 +22,6 @@ use Rattle.model.specs.Answers.{answer}
 use Rattle.model.specs.Examples.{Line, linesOf}
 
 -- ---- tables
--- the value that stands beside a key, or another where the key is not there
-unfoldable pub look : {A : Type 0} → List ℕ → List A → A → ℕ → A
-look [] values other key = other
-look (k ∷ keys) [] other key = other
-look (k ∷ keys) (v ∷ values) other key = cond (eqb key k) v (look keys values other key)
-
 -- by code: terms and tallies, and each account's positions; by settled code: what the last close answered; by member: the rest
 pub record Table : Type 0 where
   pub settings : Settings

@@ -1,0 +1,11 @@
+pub mod Standing
+pub mod Made
+pub mod Good
+pub mod StandingLaws
+pub mod MemberLaws
+pub mod StartLaws
+pub mod SoundLaws
+pub mod WalkLaws
+pub mod CloseRows
+pub mod CloseRowLaws
+pub mod OpenRows
