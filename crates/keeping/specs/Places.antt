@@ -1,0 +1,13 @@
+-- The row of the account that a call names, or the refusal of the call.
+use mathlib.Core.Bool.{Bool, cond}
+use mathlib.Core.List.{List}
+use Prim.Native.Nat.{ℕ}
+use Rattle.lists.specs.Seek.{seek, onFound}
+use Rattle.memory.specs.Layout.{headerAt, numberAt}
+use Rattle.keeping.specs.declared.places.Place.{Place}
+use Rattle.keeping.specs.declared.places.Place.the-variants.{Row, Refused}
+
+-- refused 3 where the call is not allowed at this point of the day, 5 where the account is unknown
+abbrev pub placeIn : List ℕ → Bool → ℕ → Place
+placeIn counts allowed number =
+    cond allowed (onFound (seek (numberAt counts) number (headerAt counts .members) 0) (Refused 5) Row) (Refused 3)
