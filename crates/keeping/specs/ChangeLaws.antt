@@ -1,6 +1,5 @@
 -- A special margin or limits set: the model's answer, and the memory of the book after it.
 use mathlib.Core.Path.{_≡_, refl, sym, ap, _∙_, subst}
-use mathlib.Core.Bool.{Bool}
 use mathlib.Core.List.{List, []}
 use Prim.Native.Nat.{ℕ}
 use lib.Dec.{ltb}
@@ -11,7 +10,6 @@ use Rattle.positions.specs.declared.Position.{Position}
 use Rattle.holdings.specs.Holdings.{withLimits, withSpecial}
 use Rattle.accounts.specs.Accounts.{withHoldings}
 use Rattle.accounts.specs.declared.Account.{Account}
-use Rattle.memory.specs.declared.header_row.Header.{Header}
 use Rattle.memory.specs.Layout.{headerAt, accountAt, withAccountCounts, withAccountMoney}
 use Rattle.memory.specs.Memory.{Holds}
 use Rattle.memory.specs.MemoryLaws.{put-account}
@@ -50,17 +48,17 @@ module _ (b : Book) (n : ℕ) where
   change-after (Special x) = refl
   change-after (Coming l) = refl
 
-module _ {c : List ℕ} {m : List ℤ} (s : Sound c m) (n : ℕ) (x : Change) {h : Header} {t : Bool} {p : Place}
-    (loads : h ≡ headerAt c) (allows : t ≡ ltb 0 (h .point)) (finds : p ≡ placeIn c t n) where
+module _ {c : List ℕ} {m : List ℤ} (s : Sound c m) (n : ℕ) (x : Change) {p : Place}
+    (finds : p ≡ placeIn c (ltb 0 (headerAt c .point)) n) where
   abbrev book : Book
   book = run (s .history)
 
   pub change-refused : {number : ℕ} → p ≡ Refused number → Made c m (changeCall n x) number c m
-  change-refused = refused-place s n (changeCall n x) (ltb 0) [] (change-names book n x) loads allows finds
+  change-refused = refused-place s n (changeCall n x) (ltb 0) [] (change-names book n x) finds
 
   module _ {i : ℕ} (q : p ≡ Row i) where
     pub changer : Named book c m (changeCall n x) [] n i
-    changer = named s n (changeCall n x) (ltb 0) [] (change-names book n x) loads allows finds q
+    changer = named s n (changeCall n x) (ltb 0) [] (change-names book n x) finds q
 
     abbrev after-row : Account
     after-row = withHoldings (accountRow book n) (holding (besides (changed (holdingsOf book n) x)) (padded 6 flat (positionsOf book n)))

@@ -1,7 +1,7 @@
 -- An enrolment: the model's answer, and the memory of the book after it.
 use mathlib.Core.Path.{_≡_, sym, ap, _∙_, subst}
 use mathlib.Core.Bool.{true, false, not}
-use mathlib.Core.List.{List}
+use mathlib.Core.List.{List, [], _∷_}
 use Prim.Native.Nat.{ℕ, _≤_, _<_}
 use native.Mathlib.Omega.{arith}
 use borrow.Author.Tests.{lt-ltb, le-ltb}
@@ -22,10 +22,10 @@ use Rattle.memory.specs.MemoryLaws.{put-header, put-account, header-shaped}
 use Rattle.model.specs.Book.{Book, isMember}
 use Rattle.model.specs.Calls.{enrol}
 use Rattle.model.specs.Effects.{after}
-use Rattle.model.specs.Refusals.{isStarted}
+use Rattle.model.specs.Refusals.{needs, firstOf, isStarted}
 use Rattle.model.specs.History.{run}
 use Rattle.standing.specs.Standing.{headerRow, rowsOf}
-use Rattle.standing.specs.Made.{Sound, Made}
+use Rattle.standing.specs.Made.{Sound, decided, Made}
 use Rattle.standing.specs.Good.{Good, good}
 use Rattle.standing.specs.StandingLaws.{made, refused-made}
 use Rattle.standing.specs.MemberLaws.{oneMore, member-at, member-none, enrolled-rows}
@@ -66,14 +66,17 @@ module _ {c : List ℕ} {m : List ℤ} (s : Sound c m) (n : ℕ) (l : Limits) {h
       fresh : isMember book n ≡ false
       fresh = member-none g (s .holds) n (sym finds ∙ e)
 
+      room-decides : decided book (enrol n l) ≡ firstOf (needs (ltb (length (book .accounts .members)) 64) 7 ∷ [])
+      room-decides = first-passed 3 _ started ∙ first-passed 6 _ (ap not fresh)
+
       pub enrol-full : 64 ≤ h .members → Made c m (enrol n l) 7 c m
-      enrol-full full =
-          refused-made s (enrol n l) 6
-          (first-passed 3 _ started ∙ first-passed 6 _ (ap not fresh) ∙ first-failed 6 _ (same-members ∙ le-ltb (h .members) 64 full))
+      enrol-full full = refused-made s (enrol n l) 6 (room-decides ∙ first-failed 6 [] (same-members ∙ le-ltb (h .members) 64 full))
 
       module _ (room : h .members < 64) where
-        holds-enrolled : let a = newAccount n l (h .reference) in
-            Holds (withAccountCounts (withHeader c (oneMore h)) (h .members) a) (withAccountMoney m (h .members) a) (rowsOf (after book (enrol n l)))
+        holds-enrolled :
+            let a = newAccount n l (h .reference) in
+            let c′ = withAccountCounts (withHeader c (oneMore h)) (h .members) a in
+            Holds c′ (withAccountMoney m (h .members) a) (rowsOf (after book (enrol n l)))
         unfolding after
         holds-enrolled =
             let more = oneMore (headerRow book) in
@@ -88,5 +91,5 @@ module _ {c : List ℕ} {m : List ℤ} (s : Sound c m) (n : ℕ) (l : Limits) {h
         enrolled-made makes heads counts money =
             rw (counts, money, heads, makes)
             (made s (enrol n l) 0
-            (sym (first-passed 3 _ started ∙ first-passed 6 _ (ap not fresh) ∙ first-passed 7 _ (same-members ∙ lt-ltb (h .members) 64 room) ∙ none-left))
+            (sym (room-decides ∙ first-passed 7 [] (same-members ∙ lt-ltb (h .members) 64 room) ∙ none-left))
             holds-enrolled)

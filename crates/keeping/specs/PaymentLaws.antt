@@ -1,6 +1,5 @@
 -- A payment or a release: the model's answer, and the memory of the book after it.
 use mathlib.Core.Path.{_≡_, refl, sym, ap, _∙_, subst}
-use mathlib.Core.Bool.{Bool}
 use mathlib.Core.List.{List, [], _∷_}
 use Prim.Native.Nat.{ℕ}
 use lib.IntN.{ℤ}
@@ -10,7 +9,6 @@ use Rattle.funds.specs.BoundLaws.{sound-later}
 use Rattle.funds.specs.declared.Payment.{Payment}
 use Rattle.funds.specs.declared.Payment.the-variants.{Made, InDefault, TooMuch, Full}
 use Rattle.accounts.specs.declared.Account.{Account}
-use Rattle.memory.specs.declared.header_row.Header.{Header}
 use Rattle.memory.specs.Layout.{headerAt, accountAt}
 use Rattle.memory.specs.Memory.{Holds}
 use Rattle.memory.specs.MemoryLaws.{put-account}
@@ -56,8 +54,8 @@ last-test InDefault = refl
 last-test TooMuch = refl
 last-test Full = refl
 
-module _ {c : List ℕ} {m : List ℤ} (s : standing.Sound c m) (way : Way) (n : ℕ) (x : ℤ) {h : Header} {t : Bool} {p : Place}
-    (loads : h ≡ headerAt c) (allows : t ≡ mayPay way (h .point)) (finds : p ≡ placeIn c t n) where
+module _ {c : List ℕ} {m : List ℤ} (s : standing.Sound c m) (way : Way) (n : ℕ) (x : ℤ) {p : Place}
+    (finds : p ≡ placeIn c (mayPay way (headerAt c .point)) n) where
   abbrev book : Book
   book = run (s .history)
 
@@ -65,11 +63,11 @@ module _ {c : List ℕ} {m : List ℤ} (s : standing.Sound c m) (way : Way) (n :
   g = good (s .history)
 
   pub pay-refused : {number : ℕ} → p ≡ Refused number → standing.Made c m (payCall way n x) number c m
-  pay-refused = refused-place s n (payCall way n x) (mayPay way) _ (pay-names book n x way) loads allows finds
+  pay-refused = refused-place s n (payCall way n x) (mayPay way) _ (pay-names book n x way) finds
 
   module _ {i : ℕ} (q : p ≡ Row i) where
     pub payer : Named book c m (payCall way n x) (funds.refusalOf (answer book n x way) ∷ []) n i
-    payer = named s n (payCall way n x) (mayPay way) _ (pay-names book n x way) loads allows finds q
+    payer = named s n (payCall way n x) (mayPay way) _ (pay-names book n x way) finds q
 
     module _ {a : Account} (reads : a ≡ accountAt c m i) where
       same : a ≡ accountRow book n

@@ -38,8 +38,7 @@ abbrev pub Names : Book → Call → (ℕ → Bool) → ℕ → List ℕ → Typ
 Names b call may n rest = tests b call ≡ needs (may (stage (b .today .point))) 3 ∷ needs (isMember b n) 5 ∷ rest
 
 module _ {c : List ℕ} {m : List ℤ} (s : Sound c m) (n : ℕ) (call : Call) (may : ℕ → Bool) (rest : List ℕ)
-    (e : Names (run (s .history)) call may n rest) {h : Header} {t : Bool} {p : Place}
-    (loads : h ≡ headerAt c) (allows : t ≡ may (h .point)) (finds : p ≡ placeIn c t n) where
+    (e : Names (run (s .history)) call may n rest) {p : Place} (finds : p ≡ placeIn c (may (headerAt c .point)) n) where
   abbrev book : Book
   book = run (s .history)
 
@@ -49,8 +48,11 @@ module _ {c : List ℕ} {m : List ℤ} (s : Sound c m) (n : ℕ) (call : Call) (
   abbrev found : Found
   found = seek (numberAt c) n (headerAt c .members) 0
 
+  abbrev t : Bool
+  t = may (headerAt c .point)
+
   allowed : {u : Bool} → t ≡ u → may (stage (book .today .point)) ≡ u
-  allowed d = sym (allows ∙ ap (λ (x : Header). may (x .point)) (loads ∙ sound-header s)) ∙ d
+  allowed d = ap (λ (x : Header). may (x .point)) (sym (sound-header s)) ∙ d
 
   pub refused-place : {number : ℕ} → p ≡ Refused number → Made c m call number c m
   refused-place {number} q = go t refl found refl (sym finds ∙ q)

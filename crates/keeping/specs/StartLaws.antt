@@ -45,7 +45,9 @@ module _ {c : List ℕ} {m : List ℤ} (s : Sound c m) (x : Settings) {h : Heade
     start-unaccepted d = refused-made s (start x) 17 (first-passed 3 _ (ap not fresh) ∙ first-failed 17 _ (sym tells ∙ d))
 
     module _ (room : length (x .exceptions) ≤ 400) where
-      holds-started : Holds (withPart 10 (length (x .exceptions)) (withHeader c (startedHeader x h)) (x .exceptions)) m (rowsOf (after book (start x)))
+      holds-started :
+          let c′ = withPart 10 (length (x .exceptions)) (withHeader c (startedHeader x h)) (x .exceptions) in
+          Holds c′ m (rowsOf (after book (start x)))
       unfolding after
       holds-started =
           let begun = startedHeader x (headerRow book) in

@@ -45,7 +45,7 @@ pub fn enrol(counts: &mut [u64], money: &mut [i64], number: u64, limits: Limits)
 }
 
 // What is set for an account: a special margin, in the place of the old one, or limits, to come into force at the next close.
-pub enum Change {
+enum Change {
     Special(i64),
     Coming(Limits),
 }
@@ -59,6 +59,7 @@ fn changed(h: Holdings, change: Change) -> Holdings
     }
 }
 
+// The change made to the account of a number.
 fn set(counts: &mut [u64], money: &mut [i64], number: u64, change: Change) -> u64
     requires { ⌜ Sound (now counts) (now money) ⌝ }
     ensures { λ r. ⌜ Made (now (counts .entry)) (now (money .entry)) (changeCall number change) r (now (counts .exit)) (now (money .exit)) ⌝ }
@@ -76,7 +77,7 @@ fn set(counts: &mut [u64], money: &mut [i64], number: u64, change: Change) -> u6
     }
 }
 
-// A special margin. It counts from the next close.
+// A special margin. It counts from the next close on.
 pub fn set_special(counts: &mut [u64], money: &mut [i64], number: u64, special: u64) -> u64
     requires { ⌜ Sound (now counts) (now money) × (special ≤ 100000000000000) ⌝ }
     ensures { λ r. ⌜ Made (now (counts .entry)) (now (money .entry)) (setSpecial number (pos special)) r (now (counts .exit)) (now (money .exit)) ⌝ }
@@ -89,7 +90,7 @@ pub fn set_special(counts: &mut [u64], money: &mut [i64], number: u64, special: 
     )
 }
 
-// Limits.
+// Limits. They are in force from the next close on.
 pub fn set_limits(counts: &mut [u64], money: &mut [i64], number: u64, limits: Limits) -> u64
     requires { ⌜ Sound (now counts) (now money) × Granted limits ⌝ }
     ensures { λ r. ⌜ Made (now (counts .entry)) (now (money .entry)) (setLimits number limits) r (now (counts .exit)) (now (money .exit)) ⌝ }

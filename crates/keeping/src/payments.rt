@@ -19,7 +19,7 @@ use memory::load_header;
 use memory::store_account;
 
 // Into the cash, out of it, or from margin to cash.
-pub enum Way {
+enum Way {
     In,
     Out,
     Back,
@@ -36,6 +36,7 @@ fn may_pay(way: Way, point: u64) -> bool
     }
 }
 
+// What moving an amount of an account's money answers.
 fn paid(way: Way, f: Funds, amount: i64) -> Payment
     requires { ⌜ bounds.Sound bounds.daysMost f × Amount 100000000000000 amount ⌝ }
     ensures { λ r. ⌜ r ≡ paidBy way f amount ⌝ }
@@ -65,6 +66,7 @@ fn pay(counts: &mut [u64], money: &mut [i64], i: usize, a: Account, payment: Pay
     }
 }
 
+// Money moved for the account of a number.
 fn transfer(counts: &mut [u64], money: &mut [i64], way: Way, number: u64, amount: u64) -> u64
     requires { ⌜ Sound (now counts) (now money) × (amount ≤ 100000000000000) ⌝ }
     ensures { λ r. ⌜ Made (now (counts .entry)) (now (money .entry)) (payCall way number (pos amount)) r (now (counts .exit)) (now (money .exit)) ⌝ }

@@ -16,7 +16,9 @@ with-limits-requires : tie.Need-with-limits-requires
 with-limits-requires c κs = search needs
 
 returns : tie.Need-returns
-returns c = let x = c .before .before .change in rw (x .given .1, c .with-special .ensures, told (x .given .0 .0) (c .before .known-told .given .0 .1))
+returns c =
+    let x = c .before .before .change in
+    rw (x .given .1, c .with-special .ensures, told (x .given .0 .0) (c .before .known-told .given .0 .1))
 
 returns-2 : tie.Need-returns-2
 returns-2 c = rw (c .before .before .change2 .given .1) (c .with-limits .ensures)

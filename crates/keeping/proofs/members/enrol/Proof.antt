@@ -1,4 +1,4 @@
-use mathlib.Core.Path.{subst, sym}
+use mathlib.Core.Path.{sym, subst}
 use borrow.Author.Needs.{needs}
 use Rattle.memory.specs.Layout.{Long}
 use Rattle.standing.specs.SoundLaws.{sound-long, sound-members, headed-long}

@@ -1,4 +1,4 @@
-use mathlib.Core.Path.{subst, sym, _∙_}
+use mathlib.Core.Path.{sym, subst}
 use borrow.Author.Needs.{needs}
 use borrow.Author.Tests.{not-true, not-false}
 use Rattle.memory.specs.Layout.{Long}
