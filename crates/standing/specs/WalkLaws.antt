@@ -1,26 +1,50 @@
 -- A walk that changes the accounts' rows one after the other: the memory after some turns.
-use mathlib.Core.Path.{_≡_, sym, ap, _∙_}
+use mathlib.Core.Path.{_≡_, sym, ap, _∙_, subst}
 use mathlib.Core.List.{List, map, map-map}
 use Prim.Native.Nat.{ℕ, _+_, _<_}
+use native.Mathlib.Omega.{arith}
 use lib.IntN.{ℤ}
 use lib.ListN.{length, getD, length-map}
 use Rattle.lists.specs.Padded.{padded}
 use Rattle.lists.specs.Rows.{firstRows, firstRows-at, firstRows-step, firstRows-length, firstRows-padded, firstRows-keeps}
 use Rattle.accounts.specs.declared.Account.{Account}
 use Rattle.memory.specs.Rows.{blankAccount}
-use Rattle.memory.specs.Layout.{Long, accountAt, withAccountCounts, withAccountMoney}
+use Rattle.memory.specs.Layout.{Long, headerAt, accountAt, withAccountCounts, withAccountMoney}
 use Rattle.memory.specs.Memory.{Rows, Holds, Shaped, withAccounts}
-use Rattle.memory.specs.MemoryLaws.{memory-long, account-is, put-account}
+use Rattle.memory.specs.MemoryLaws.{memory-long, header-is, account-is, put-account}
 use Rattle.model.specs.Book.{Book}
-use Rattle.standing.specs.Standing.{accountRow, rowsOf}
+use Rattle.model.specs.History.{run}
+use Rattle.standing.specs.Standing.{headerRow, accountRow, rowsOf, view}
+use Rattle.standing.specs.Made.{Sound}
+use Rattle.standing.specs.Good.{Good, good}
+use Rattle.standing.specs.StandingLaws.{rows-shaped, view-is}
+use Rattle.standing.specs.MemberLaws.{member-row}
 
--- the rows, the first i accounts changed
+-- ---- the book that a memory stands for, which a walk's contract speaks of
+module _ {counts : List ℕ} {money : List ℤ} (s : Sound counts money) where
+  pub view-run : view counts money ≡ run (s .history)
+  view-run = view-is (good (s .history)) (s .holds)
+
+  pub view-good : Good (view counts money)
+  view-good = subst Good (sym view-run) (good (s .history))
+
+  pub view-holds : Holds counts money (rowsOf (view counts money))
+  view-holds = subst (λ b. Holds counts money (rowsOf b)) (sym view-run) (s .holds)
+
+  pub view-header : headerAt counts ≡ headerRow (view counts money)
+  view-header = header-is (rowsOf (view counts money)) (rows-shaped view-good) view-holds
+
+-- ---- the rows, the first i accounts changed
 abbrev pub walked : Rows → (Account → Account) → ℕ → Rows
 walked r f i = withAccounts r (firstRows f i (r .accounts))
 
 -- an account has six positions still
 abbrev pub KeepsSix : (Account → Account) → Type 0
 KeepsSix f = (a : Account) → length (a .holdings .positions) ≡ 6 → length (f a .holdings .positions) ≡ 6
+
+-- before the first turn
+pub walk-start : {c : List ℕ} {m : List ℤ} {r : Rows} (f : Account → Account) → Holds c m r → Holds c m (walked r f 0)
+walk-start f h = record { counts = h .counts; money = h .money }
 
 module _ (r : Rows) (s : Shaped r) (f : Account → Account) (six : KeepsSix f) where
   pub walked-shaped : (i : ℕ) → Shaped (walked r f i)
@@ -47,16 +71,17 @@ module _ (r : Rows) (s : Shaped r) (f : Account → Account) (six : KeepsSix f) 
       -- and is put back changed
       pub walk-step : {c′ : List ℕ} {m′ : List ℤ} {a : Account} → a ≡ f (accountAt c m i)
           → c′ ≡ withAccountCounts c i a → m′ ≡ withAccountMoney m i a → Holds c′ m′ (walked r f (i + 1))
-      walk-step {a = a} e p t =
-          let next : f (accountAt c m i) ≡ f (getD (r .accounts) i blankAccount) = ap f walk-row in
-          rw (p, t, e ∙ next, ← firstRows-step f (r .accounts) i blankAccount (rw (s .accounts) q))
+      walk-step e p t =
+          rw (p, t, e ∙ ap f walk-row, ← firstRows-step f (r .accounts) i blankAccount (rw (s .accounts) q))
           (put-account (walked r f i) (walked-shaped i) h i q (f (getD (r .accounts) i blankAccount)))
 
--- before the first turn
-pub walk-start : {c : List ℕ} {m : List ℤ} {r : Rows} (f : Account → Account) → Holds c m r → Holds c m (walked r f 0)
-walk-start f h = record { counts = h .counts; money = h .money }
+-- ---- the members of a book
+module _ {b : Book} (g : Good b) (f : Account → Account) where
+  pub walk-member : KeepsSix f → {c : List ℕ} {m : List ℤ} (i : ℕ) → Holds c m (walked (rowsOf b) f i) → i < length (b .accounts .members)
+      → accountAt c m i ≡ accountRow b (getD (b .accounts .members) i 0)
+  walk-member six i h q = walk-row (rowsOf b) (rows-shaped g) f six i h (omega (arith, g .sized .members)) ∙ member-row g i q
 
--- after the last one: each member's row is changed, and the others are blank still
+-- after the last turn each member's row is changed, and the others are blank still
 pub walk-end : (b : Book) (f : Account → Account)
     → firstRows f (length (b .accounts .members)) (rowsOf b .accounts) ≡ padded 64 blankAccount (map (λ n. f (accountRow b n)) (b .accounts .members))
 walk-end b f =
