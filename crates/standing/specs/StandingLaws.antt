@@ -82,7 +82,7 @@ rule-back Quotes = refl
 rule-back Previous = refl
 rule-back Final = refl
 
-settled-back : (b : Book) (c : ℕ) → settledOf (outcomeRow b c) ≡ b .results .settled c
+pub settled-back : (b : Book) (c : ℕ) → settledOf (outcomeRow b c) ≡ b .results .settled c
 settled-back b c = rw (rule-back (b .results .settled c .rule))
 
 positions-back : {b : Book} → Framed b
