@@ -9,3 +9,4 @@ pub mod WalkLaws
 pub mod CloseRows
 pub mod CloseRowLaws
 pub mod OpenRows
+pub mod OpenRowLaws
