@@ -4,7 +4,7 @@ use mathlib.Core.List.{List, [], _∷_, map}
 use Prim.Native.Nat.{ℕ, zero, suc, _<_}
 use native.Mathlib.Nat.{not-suc-le-zero, le-of-suc-le-suc, suc-inj}
 use native.Mathlib.Omega.{arith}
-use lib.ListN.{length, getD, set}
+use lib.ListN.{length, getD, set, drop}
 
 unfoldable pub zipped : {X Y Z : Type 0} → (X → Y → Z) → List X → List Y → List Z
 zipped f [] ys = []
@@ -40,6 +40,18 @@ module _ {X Y Z : Type 0} (f : X → Y → Z) where
   zipped-at z x₀ y₀ (x ∷ xs) (y ∷ ys) zero h k = refl
   zipped-at z x₀ y₀ (x ∷ xs) (y ∷ ys) (suc i) h k =
       zipped-at z x₀ y₀ xs ys i (le-of-suc-le-suc h) (le-of-suc-le-suc k)
+
+  -- from a place on
+  pub zipped-drop : (n : ℕ) (xs : List X) (ys : List Y) → drop n (zipped f xs ys) ≡ zipped f (drop n xs) (drop n ys)
+  unfolding zipped
+  zipped-drop zero xs ys = refl
+  zipped-drop (suc n) [] ys = refl
+  zipped-drop (suc n) (x ∷ xs) [] = none (drop n xs)
+    where
+      none : (zs : List X) → [] ≡ zipped f zs []
+      none [] = refl
+      none (z ∷ zs) = refl
+  zipped-drop (suc n) (x ∷ xs) (y ∷ ys) = zipped-drop n xs ys
 
   -- a store in the first list
   pub zipped-set : (y₀ : Y) (xs : List X) (ys : List Y) (i : ℕ) (x : X) → i < length ys

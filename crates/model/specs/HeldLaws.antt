@@ -27,7 +27,7 @@ use Rattle.accounts.specs.Accounts.{closed, refreshed}
 use Rattle.accounts.specs.Bounds as accounts
 use Rattle.accounts.specs.BoundLaws.{closed-sound}
 use Rattle.accounts.specs.declared.Account.{Account}
-use Rattle.model.specs.Book.{Book, Held, noHeld, holding, besides, positionsOf, accountOf}
+use Rattle.model.specs.Book.{Book, Held, noHeld, holding, besides, positionsOf, holdingsOf, accountOf, marginsOf}
 use Rattle.model.specs.Effects.{dayEndOf, closedAt}
 use Rattle.model.specs.Bounds.{allBooked, Modest}
 use Rattle.model.specs.NaturalLaws.{totalOver, total-spread}
@@ -108,8 +108,20 @@ module _ {b : Book} (s : Sized b) (six : length (b .contracts .codes) ≡ 6) whe
     costs = s .dealt .own n;
   }
 
+  pub holdings-sound : (n : ℕ) → holdings.Sound (b .today .trades) (holdingsOf b n)
+  holdings-sound n = with-positions (s .held n) (kept-positions n)
+
+  pub open-sound : (n : ℕ) → accounts.Sound (b .today .trades) (daysOf (b .today)) (accountOf b n)
+  open-sound n = record { holdings = holdings-sound n; funds = s .funded .sound n }
+
+  pub margins-good : positions.Margins (marginsOf b)
+  margins-good = record {
+    six = length-map (b .contracts .codes) _ ∙ six;
+    at = map-keeps (λ m. m ≤ 100000000) 0 _ (b .contracts .codes) zero-le (λ c. s .contracts .terms c .margin);
+  }
+
   module _ (final : ℤ) (w : Within 100000 final) where
-    good-end : GoodDayEnd (dayEndOf b final)
+    pub good-end : GoodDayEnd (dayEndOf b final)
     good-end = record {
       marks = record {
         six = length-map (b .contracts .codes) _ ∙ six;
@@ -120,20 +132,13 @@ module _ {b : Book} (s : Sized b) (six : length (b .contracts .codes) ≡ 6) whe
               rate = rate-fair b final (s .contracts .terms) (s .contracts .tallies) w c;
             });
       };
-      margins = record {
-        six = length-map (b .contracts .codes) _ ∙ six;
-        at = map-keeps (λ m. m ≤ 100000000) 0 _ (b .contracts .codes) zero-le (λ c. s .contracts .terms c .margin);
-      };
+      margins = margins-good;
       reference = record { most = s .settings .reference };
       multiplier = s .settings .multiplier;
     }
 
     pub account-sound : (n : ℕ) → accounts.Sound 0 (daysOf (b .today) + 1) (closedAt b final n)
-    account-sound n =
-        closed-sound {trades = b .today .trades} {a = accountOf b n} {d = dayEndOf b final}
-        (record { holdings = with-positions (s .held n) (kept-positions n); funds = s .funded .sound n })
-        (s .today .trades)
-        good-end
+    account-sound n = closed-sound {d = dayEndOf b final} (open-sound n) (s .today .trades) good-end
 
     pub closed-modest : (n : ℕ) → Modest (besides (closedAt b final n .holdings))
     closed-modest n = without-positions (account-sound n .holdings)

@@ -43,6 +43,9 @@ outcomeFrom x ending final = record {
 abbrev pub outcomeIn : Rows → ℤ → Contract → Outcome
 outcomeIn r final x = outcomeFrom x (endsIn r (x .code)) final
 
+abbrev pub outcomeFor : ℤ → ℕ → Rows → Outcome
+outcomeFor final k r = outcomeIn r final (getD (r .contracts) k blankContract)
+
 abbrev pub priced : ℤ → Rows → Rows
 priced final r = withOutcomes r (map (outcomeIn r final) (r .contracts))
 
@@ -80,15 +83,28 @@ withPositionsUp ended a = record {
 abbrev pub closedRow : Bool → DayEnd → Account → Account
 closedRow ended d a = withPositionsUp ended (closed d a)
 
+abbrev pub bookedWith : Bool → DayEnd → Rows → Rows
+bookedWith ended d r = withAccounts r (firstRows (closedRow ended d) (r .header .members) (r .accounts))
+
 abbrev pub booked : Rows → Rows
-booked r = withAccounts r (firstRows (closedRow (firstEnded r) (dayEndIn r)) (r .header .members) (r .accounts))
+booked r = bookedWith (firstEnded r) (dayEndIn r) r
 
 -- ---- contracts
 abbrev pub renewedRow : Contract → Outcome → Contract
 renewedRow x o = record { code = x .code; margin = x .margin; previous = o .rate; tally = noTally }
 
+-- in their places, a blank one past the last
+abbrev pub renewedAt : Rows → ℕ → Contract
+renewedAt r k = getD (zipped renewedRow (r .contracts) (r .outcomes)) k blankContract
+
+abbrev pub renewedRows : Bool → Rows → List Contract
+renewedRows ended r = movedUp ended blankContract (zipped renewedRow (r .contracts) (r .outcomes))
+
+abbrev pub renewedWith : Bool → Rows → Rows
+renewedWith ended r = withContracts r (renewedRows ended r)
+
 abbrev pub renewed : Rows → Rows
-renewed r = withContracts r (movedUp (firstEnded r) blankContract (zipped renewedRow (r .contracts) (r .outcomes)))
+renewed r = renewedWith (firstEnded r) r
 
 -- ---- the header
 abbrev pub shutHeader : Bool → Header → Header

@@ -5,8 +5,9 @@ pub mod StandingLaws
 pub mod MemberLaws
 pub mod StartLaws
 pub mod SoundLaws
+pub mod DealLaws
 pub mod WalkLaws
-pub mod CloseRows
-pub mod CloseRowLaws
 pub mod OpenRows
 pub mod OpenRowLaws
+pub mod CloseRows
+pub mod CloseRowLaws

@@ -1,0 +1,4 @@
+pub mod Turns
+pub mod ReadLaws
+pub mod TurnLaws
+pub mod ClosableLaws

@@ -1,0 +1,10 @@
+pub mod Dealing
+pub mod Sides
+pub mod Parties
+pub mod PartiesLaws
+pub mod TradedLaws
+pub mod Written
+pub mod WrittenLaws
+pub mod DealsLaws
+pub mod Quotes
+pub mod QuoteLaws
