@@ -1,0 +1,9 @@
+pub mod Answered
+pub mod Called
+pub mod CalledLaws
+pub mod Feeding
+pub mod FeedingLaws
+pub mod Joined
+pub mod KindLaws
+pub mod Padding
+pub mod Taken
