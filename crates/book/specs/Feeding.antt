@@ -1,7 +1,7 @@
 -- Bytes on a book: the record at a place, and a whole file.
 use mathlib.Core.Path.{_≡_}
 use mathlib.Core.List.{List, [], _∷_, reverse}
-use Prim.Native.Nat.{ℕ, _-_}
+use Prim.Native.Nat.{ℕ, _-_, _≤_}
 use lib.IntN.{ℤ}
 use lib.ListN.{length, drop}
 use Rattle.records.specs.Records.{Entry, Parsed, unread, parsed, reading}
@@ -32,4 +32,5 @@ ReadsTo s (e ∷ more) left = (rest : List ℕ) × ((reading s ≡ parsed e rest
 pub record Ran (bytes : List ℕ) (place : ℕ) (counts : List ℕ) (money : List ℤ) : Type 0 where
   pub entries : List Entry
   pub reads : ReadsTo bytes entries (drop place bytes)
+  pub inside : place ≤ length bytes
   pub memory : Holds counts money (rowsOf (model.run (reverse entries)))

@@ -88,13 +88,14 @@ fed-none s at first counts money e = record { outcome = go (reading (drop at s))
 -- the records before a place were called, the latest first, and those of the file are they and then those of what is left
 pub record Running (bytes : List ℕ) (place : ℕ) (counts : List ℕ) (money : List ℤ) : Type 0 where
   pub history : List Entry
+  pub inside : place ≤ length bytes
   pub holds : Holds counts money (rowsOf (run history))
   pub goes-on : (more : List Entry) (left : List ℕ) → ReadsTo (drop place bytes) more left
       → (entries : List Entry) × (ReadsTo bytes entries left × (reverse entries ≡ reverseAux more history))
 
 pub run-starts : (bytes : List ℕ) {counts : List ℕ} {money : List ℤ} → Holds counts money (rowsOf new) → Running bytes 0 counts money
 unfolding run
-run-starts bytes h = record { history = []; holds = h; goes-on = λ more left r. (more, (r, refl)) }
+run-starts bytes h = record { history = []; inside = zero-le; holds = h; goes-on = λ more left r. (more, (r, refl)) }
 
 module _ {bytes : List ℕ} {place : ℕ} {counts : List ℕ} {money : List ℤ} (g : Running bytes place counts money) where
   pub running-sound : Sound counts money
@@ -120,6 +121,7 @@ module _ {bytes : List ℕ} {place : ℕ} {counts : List ℕ} {money : List ℤ}
             omega arith,
             record {
               history = e ∷ g .history;
+              inside = omega arith;
               holds = next-holds e (g .history) (g .holds) (h .memory);
               goes-on = λ more end r. g .goes-on (e ∷ more) end (rest, (i, subst (λ z. ReadsTo z more end) left r));
             },
@@ -132,6 +134,7 @@ module _ {bytes : List ℕ} {place : ℕ} {counts : List ℕ} {money : List ℤ}
       record {
         entries = f .0;
         reads = f .1 .0;
+        inside = g .inside;
         memory = subst (λ h. Holds counts money (rowsOf (run h))) (sym (f .1 .1)) (g .holds);
       }
 
