@@ -31,6 +31,10 @@ number-says : (b : Book) (c : Call) (a : Answer) → answerOf (after b c) a ≡ 
 number-says b c a e zero = e
 number-says b c a e (suc n) = refl
 
+pub number-refused : (a : Answer) (n : ℕ) → (n ≡ 0 → ⊥) → Refused n ≡ numbered a n
+number-refused a zero h = absurd (h refl)
+number-refused a (suc n) h = refl
+
 deal-says : (b : Book) (r : Dealt) → answerOf b (dealt r) ≡ tradeAnswer r
 deal-says b (dealing.Refused number) = refl
 deal-says b (dealing.Accepted buyer seller) = refl

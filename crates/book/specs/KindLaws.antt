@@ -16,10 +16,8 @@ use Rattle.model.specs.Calls.{callOf}
 use Rattle.model.specs.Answers.{done, accepts}
 use Rattle.model.specs.RangeLaws.{Ranged}
 use Rattle.standing.specs.Made.{Sound}
-use Rattle.book.specs.declared.calls.Answer.{Answer}
 use Rattle.book.specs.declared.calls.Answer.the-variants.{Refused}
 use Rattle.book.specs.Called.{Called}
-use Rattle.book.specs.Answered.{numbered}
 use Rattle.book.specs.CalledLaws.{unranged-called}
 
 -- the calls of the first kinds answer no more than that they are done
@@ -50,10 +48,6 @@ kind-most kind fields x r = go (decLe kind 12)
     go (no h) =
         let past : kind ≡ suc (suc (suc (suc (suc (suc (suc (suc (suc (suc (suc (suc (suc (kind - 13))))))))))))) = omega arith in
         absurd (subst (λ k. Ranged (callOf (entry k fields x))) past r)
-
-pub number-refused : (a : Answer) (n : ℕ) → (n ≡ 0 → ⊥) → Refused n ≡ numbered a n
-number-refused a zero h = absurd (h refl)
-number-refused a (suc n) h = refl
 
 -- ---- the range check
 pub amount-most : {B n : ℕ} → Amount B (pos n) → n ≤ B

@@ -1,8 +1,8 @@
 -- A record that bytes hold and the row of thirteen numbers that is read from them make the same call.
 use mathlib.Core.Path.{_≡_, refl, sym, ap, ap₂, _∙_}
-use mathlib.Core.Bool.{true, _&&_}
+use mathlib.Core.Bool.{_&&_}
 use mathlib.Core.List.{List, [], _∷_, _++_}
-use Prim.Native.Nat.{ℕ, zero, suc, _-_}
+use Prim.Native.Nat.{ℕ, _-_}
 use native.Mathlib.Omega.{arith}
 use lib.ListN.{length, getD, drop, replicate}
 use lib.Seq.{drop-at, drop-length}
@@ -11,16 +11,12 @@ use Rattle.fields.specs.Fields.{Quantity, withinCeilings, isZero, fieldsOf, cou
 use Rattle.records.specs.Records.{entry}
 use Rattle.records.specs.RecordLaws.{Whole}
 use Rattle.records.specs.Reading.{padded}
+use Rattle.records.specs.WritingLaws.{zeros-all}
 use Rattle.records.specs.ReadingLaws.{padded-at, announced-padded}
 use Rattle.model.specs.Book.{Book}
 use Rattle.model.specs.Calls.{unknown, byKind, callOf}
 use Rattle.model.specs.Refusals.{firstOf, ranged, tests, refusal}
 use Rattle.model.specs.Answers.{called, answer}
-
-all-zeros : (n : ℕ) → all isZero (replicate n 0) ≡ true
-unfolding all
-all-zeros zero = refl
-all-zeros (suc n) = all-zeros n
 
 -- ---- the call
 same-kinds : (kind : ℕ) (own x : List ℕ) → byKind (entry kind (padded own) x) ≡ byKind (entry kind own x)
@@ -44,7 +40,7 @@ module _ (kind : ℕ) (own x : List ℕ) (w : Whole (entry kind own x)) where
   same-behind : all isZero (drop (count kind) (padded own)) ≡ all isZero (drop (count kind) own)
   unfolding all
   same-behind =
-      ap (all isZero) (drop-at own (replicate (13 - length own) 0) (count kind) (w .sized)) ∙ all-zeros (13 - length own)
+      ap (all isZero) (drop-at own (replicate (13 - length own) 0) (count kind) (w .sized)) ∙ zeros-all (13 - length own)
       ∙ sym (ap (λ k. all isZero (drop k own)) (sym (w .sized)) ∙ ap (all isZero) (drop-length own))
 
   same-range : ranged (entry kind (padded own) x) ≡ ranged (entry kind own x)

@@ -68,7 +68,7 @@ fn dealt(d: Dealt) -> Answer
     ensures { λ r. ⌜ r ≡ dealtAs d ⌝ }
 {
     match d {
-        Dealt::Refused(no) => Answer::Refused(no),
+        Dealt::Refused(number) => Answer::Refused(number),
         Dealt::Accepted(buyer, seller) => Answer::BothSides(buyer, seller),
     }
 }
@@ -202,8 +202,8 @@ pub fn call(
     requires { ⌜ Sound (now counts) (now money) ⌝ }
     ensures { λ r. ⌜ Called (now (counts .entry)) (now (money .entry)) (entry kind fields (now (exceptions .entry))) r (now (counts .exit)) (now (money .exit)) ⌝ }
 {
-    if let Checked::Refused(no) = in_range(kind, fields, exceptions) {
-        return Answer::Refused(no);
+    if let Checked::Refused(number) = in_range(kind, fields, exceptions) {
+        return Answer::Refused(number);
     }
     if kind <= 6 {
         return numbered(

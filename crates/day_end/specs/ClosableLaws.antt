@@ -22,7 +22,7 @@ use Rattle.standing.specs.Standing.{contractRow, rowsOf}
 use Rattle.standing.specs.Good.{Good}
 use Rattle.standing.specs.MemberLaws.{member-row, open-row}
 use Rattle.standing.specs.CloseRowLaws.{day-end-is}
-use Rattle.day_end.specs.Turns.{Priceable, Closable}
+use Rattle.day_end.specs.Closable.{Priceable, Closable}
 use Rattle.day_end.specs.ReadLaws.{blank-tally}
 
 blank-sound : tallies.Sound (blankContract .tally)

@@ -1,4 +1,4 @@
-pub mod Turns
+pub mod Closable
 pub mod ReadLaws
 pub mod TurnLaws
 pub mod ClosableLaws

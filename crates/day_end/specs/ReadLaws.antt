@@ -35,7 +35,8 @@ use Rattle.memory.specs.Memory.{Rows, Shaped}
 use Rattle.memory.specs.MemoryLaws.{header-is, exceptions-part, contract-is, outcome-is, margin-is}
 use Rattle.model.specs.Book.{noTally}
 use Rattle.standing.specs.CloseRows.{outcomeFrom, outcomeIn, outcomeFor, markFrom, dayEndIn, firstEnded, movedUp, renewedRow, renewedAt}
-use Rattle.day_end.specs.Turns.{Whole, markAt}
+use Rattle.standing.specs.Turns.{Whole}
+use Rattle.day_end.specs.Closable.{markAt}
 
 -- ---- where something is gone
 pub byte-most : (t : Bool) → boolByte t ≤ 1

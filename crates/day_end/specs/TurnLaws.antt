@@ -27,7 +27,8 @@ use Rattle.memory.specs.MemoryLaws.{header-is, put-header, put-contract, put-ou
 use Rattle.standing.specs.CloseRows.{outcomeIn, outcomeFor, priced, dayEndIn, firstEnded, closedRow, bookedWith, booked}
 use Rattle.standing.specs.CloseRows.{renewedRow, renewedAt, renewedRows, renewedWith, renewed, shutHeader, shut}
 use Rattle.standing.specs.WalkLaws.{KeepsSix}
-use Rattle.day_end.specs.Turns.{Whole, Priceable, Bookable}
+use Rattle.standing.specs.Turns.{Whole}
+use Rattle.day_end.specs.Closable.{Priceable, Bookable}
 use Rattle.day_end.specs.ReadLaws.{moved-at, moved-six}
 
 -- ---- outcomes stored one by one. They are not asked about

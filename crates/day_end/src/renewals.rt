@@ -3,7 +3,7 @@ ghost use mathlib.Core.Path.{_≡_};
 ghost use lib.ListN.{length};
 ghost use Rattle.memory.specs.Layout.{Long, countsLong, headerAt, withHeader};
 ghost use Rattle.standing.specs.CloseRows.{renewedAt, renewedWith, shutHeader};
-ghost use Rattle.day_end.specs.Turns.{Tells, Turns};
+ghost use Rattle.standing.specs.Turns.{Tells, Turns};
 use memory::Contract;
 use memory::Header;
 use memory::load_contract;

@@ -1,5 +1,5 @@
 pub mod Opens
 pub mod Filled
-pub mod Puts
+pub mod Putting
 pub mod RelistLaws
 pub mod OpenLaws

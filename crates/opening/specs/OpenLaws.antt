@@ -25,10 +25,10 @@ use Rattle.standing.specs.Made.{Sound, decided, Made}
 use Rattle.standing.specs.Good.{good}
 use Rattle.standing.specs.StandingLaws.{made, refused-made}
 use Rattle.standing.specs.SoundLaws.{sound-shaped, sound-header}
+use Rattle.standing.specs.Turns.{Turns}
 use Rattle.standing.specs.OpenRows.{relistedRows, openHeader}
 use Rattle.standing.specs.OpenRowLaws.{open-rows}
 use Rattle.opening.specs.Opens.{opensOn}
-use Rattle.opening.specs.Puts.{Puts}
 
 -- the four tests of an open
 tests-are : (s t u v : Bool) → firstOf (needs s 3 ∷ needs t 4 ∷ needs u 4 ∷ needs v 4 ∷ []) ≡ cond s (cond (t && u) (cond v 0 4) 4) 3
@@ -92,17 +92,17 @@ module _ {counts : List ℕ} {money : List ℤ} (s : Sound counts money) where
 
         -- ---- what is left
         module _ {counts′ : List ℕ} {money′ : List ℤ} (known : listingAt .known ≡ true)
-            (p : Puts counts money (relistedRows (listingAt .codes) (o .rates) (o .margins)) counts′ money′) where
+            (p : Turns counts money counts′ money′ (relistedRows (listingAt .codes) (o .rates) (o .margins))) where
           left : Holds (withHeader counts′ (openHeader (o .day) (headerAt counts))) money′ (rowsOf (opened book o))
           left =
               let is = ap (λ e. listing (isWorking e) (o .day)) exceptions-are in
               let rows : Listing → Rows = λ l. relistedRows (l .codes) (o .rates) (o .margins) (rowsOf book) in
               let h = openHeader (o .day) (headerAt counts) in
-              let a = p .rows (rowsOf book) (sound-shaped s) (s .holds) in
+              let a = p (rowsOf book) (record { shaped = sound-shaped s; holds = s .holds }) in
               subst (Holds (withHeader counts′ h) money′)
               (ap₂ (λ (l : Listing) (x : Header). withHeaderRow (rows l) (openHeader (o .day) x)) is (sound-header s)
               ∙ open-rows (good (s .history)) o (sym (ap (λ (l : Listing). l .known) is) ∙ known))
-              (put-header (rows listingAt) (a .0) (a .1) h)
+              (put-header (rows listingAt) (a .shaped) (a .holds) h)
 
           pub made-open : Made counts money (opening o) 0 (withHeader counts′ (openHeader (o .day) (headerAt counts))) money′
           unfolding after

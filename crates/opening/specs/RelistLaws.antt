@@ -14,13 +14,14 @@ use Rattle.memory.specs.declared.header_row.Header.{Header}
 use Rattle.memory.specs.declared.contract_rows.Contract.{Contract}
 use Rattle.memory.specs.Rows.{blankContract}
 use Rattle.memory.specs.Layout.{headerAt, contractAt, codeAt}
-use Rattle.memory.specs.Memory.{Rows, Shaped, WholeTally, Holds, withContracts}
+use Rattle.memory.specs.Memory.{Rows, WholeTally, withContracts}
 use Rattle.memory.specs.MemoryLaws.{header-is, contract-is, code-is}
 use Rattle.model.specs.Book.{noTally}
 use Rattle.standing.specs.WalkLaws.{walked}
 use Rattle.standing.specs.OpenRows.{placesBy, placesIn, contractWith, relistedRow, rowsBy, relisted, relistedRows}
 use Rattle.standing.specs.OpenRowLaws.{rows-by}
-use Rattle.opening.specs.Puts.{Puts, SixRows}
+use Rattle.standing.specs.Turns.{Whole, Turns}
+use Rattle.opening.specs.Putting.{SixRows}
 
 -- ---- the rows of a new day are six, with nothing traded
 none-whole : WholeTally noTally
@@ -46,30 +47,25 @@ abbrev pub placesAt : List ℕ → List ℕ → List ℕ
 placesAt c = placesBy (λ code. seek (codeAt c) code (headerAt c .listed) 0)
 
 module _ (c : List ℕ) (m : List ℤ) (few : headerAt c .listed ≤ 6) (codes : List ℕ) (rates : List ℤ) (margins : List ℕ) where
-  places-are : (r : Rows) → Shaped r → Holds c m r → placesAt c codes ≡ placesIn r codes
-  places-are r s h =
-      let is = ap (λ (x : Header). x .listed) (header-is r s h) in
+  places-are : (r : Rows) → Whole c m r → placesAt c codes ≡ placesIn r codes
+  places-are r w =
+      let is = ap (λ (x : Header). x .listed) (header-is r (w .shaped) (w .holds)) in
       ap (λ find. placesBy find codes) (fun-ext λ code.
       ap (λ n. seek (codeAt c) code n 0) is
       ∙ seek-same (codeAt c) (λ k. getD (r .contracts) k blankContract .code) code (r .header .listed) 0
-      (λ k q. code-is r s h k (omega arith)))
+      (λ k q. code-is r (w .shaped) (w .holds) k (omega arith)))
 
   abbrev rowsAt : List Contract
   rowsAt = rowsBy (contractAt c m) (placesAt c codes) codes rates margins
 
-  pub relist-puts : {c₁ c₂ : List ℕ} {m₁ m₂ : List ℤ} → Puts c m (λ r. withContracts r rowsAt) c₁ m₁
-      → Puts c₁ m₁ (λ r. walked r (relisted (placesAt c codes)) (headerAt c .members)) c₂ m₂ → Puts c m (relistedRows codes rates margins) c₂ m₂
-  relist-puts {c₂ = c₂} {m₂ = m₂} p q = record { rows = rows }
-    where
-      same : (r : Rows) → Shaped r → Holds c m r
-          → walked (withContracts r rowsAt) (relisted (placesAt c codes)) (headerAt c .members) ≡ relistedRows codes rates margins r
-      same r s h =
-          ap (λ (x : Header). walked (withContracts r rowsAt) (relisted (placesAt c codes)) (x .members)) (header-is r s h)
-          ∙ ap₂ (λ places l. walked (withContracts r l) (relisted places) (r .header .members)) (places-are r s h)
-          (rows-by (contractAt c m) _ (placesAt c codes) codes rates margins (contract-is r s h)
-          ∙ ap (λ places. rowsBy (λ k. getD (r .contracts) k blankContract) places codes rates margins) (places-are r s h))
+  relisted-is : (r : Rows) → Whole c m r
+      → walked (withContracts r rowsAt) (relisted (placesAt c codes)) (headerAt c .members) ≡ relistedRows codes rates margins r
+  relisted-is r w =
+      ap (λ (x : Header). walked (withContracts r rowsAt) (relisted (placesAt c codes)) (x .members)) (header-is r (w .shaped) (w .holds))
+      ∙ ap₂ (λ places l. walked (withContracts r l) (relisted places) (r .header .members)) (places-are r w)
+      (rows-by (contractAt c m) _ (placesAt c codes) codes rates margins (contract-is r (w .shaped) (w .holds))
+      ∙ ap (λ places. rowsBy (λ k. getD (r .contracts) k blankContract) places codes rates margins) (places-are r w))
 
-      rows : (r : Rows) → Shaped r → Holds c m r → Shaped (relistedRows codes rates margins r) × Holds c₂ m₂ (relistedRows codes rates margins r)
-      rows r s h =
-          let a = p .rows r s h in
-          subst (λ t. Shaped t × Holds c₂ m₂ t) (same r s h) (q .rows (withContracts r rowsAt) (a .0) (a .1))
+  pub relist-turns : {c₁ c₂ : List ℕ} {m₁ m₂ : List ℤ} → Turns c m c₁ m₁ (λ r. withContracts r rowsAt)
+      → Turns c₁ m₁ c₂ m₂ (λ r. walked r (relisted (placesAt c codes)) (headerAt c .members)) → Turns c m c₂ m₂ (relistedRows codes rates margins)
+  relist-turns {c₂ = c₂} {m₂ = m₂} p q r w = subst (Whole c₂ m₂) (relisted-is r w) (q (withContracts r rowsAt) (p r w))

@@ -6,7 +6,8 @@ ghost use Rattle.lists.specs.Seek.{seek};
 ghost use Rattle.memory.specs.Layout.{countsLong, Long, headerAt, contractAt, codeAt};
 ghost use Rattle.memory.specs.Memory.{withContracts};
 ghost use Rattle.standing.specs.OpenRows.{placeFound, placesBy, relistedRow, rowsBy, relistedRows};
-ghost use Rattle.opening.specs.Puts.{Puts, SixRows};
+ghost use Rattle.standing.specs.Turns.{Turns};
+ghost use Rattle.opening.specs.Putting.{SixRows};
 use crate::members::relist_members;
 use lists::Found;
 use memory::Contract;
@@ -101,7 +102,7 @@ fn rows_for(
 
 fn store_rows(counts: &mut [u64], money: &mut [i64], rows: [Contract; 6])
     requires { ⌜ Long (now counts) (now money) × SixRows rows ⌝ }
-    ensures { λ _. ⌜ Puts (now (counts .entry)) (now (money .entry)) (λ r. withContracts r rows) (now (counts .exit)) (now (money .exit)) ⌝ }
+    ensures { λ _. ⌜ Turns (now (counts .entry)) (now (money .entry)) (now (counts .exit)) (now (money .exit)) (λ r. withContracts r rows) ⌝ }
 {
     let mut j: usize = 0;
     while j < 6 {
@@ -120,7 +121,7 @@ pub fn relist(
     margins: [u64; 6],
 )
     requires { ⌜ Long (now counts) (now money) × ((headerAt (now counts) .listed ≤ 6) × (headerAt (now counts) .members ≤ 64)) ⌝ }
-    ensures { λ _. ⌜ Puts (now (counts .entry)) (now (money .entry)) (relistedRows codes rates margins) (now (counts .exit)) (now (money .exit)) ⌝ }
+    ensures { λ _. ⌜ Turns (now (counts .entry)) (now (money .entry)) (now (counts .exit)) (now (money .exit)) (relistedRows codes rates margins) ⌝ }
 {
     let h = load_header(&counts[..]);
     let members = h.members as usize;

@@ -6,7 +6,7 @@ ghost use Rattle.positions.specs.Deals.{flat};
 ghost use Rattle.memory.specs.Layout.{Long};
 ghost use Rattle.standing.specs.WalkLaws.{walked};
 ghost use Rattle.standing.specs.OpenRows.{relistedPositions, relisted};
-ghost use Rattle.opening.specs.Puts.{Puts};
+ghost use Rattle.standing.specs.Turns.{Turns};
 use accounts::Account;
 use memory::load_account;
 use memory::store_account;
@@ -57,7 +57,7 @@ fn relisted(a: Account, places: [usize; 6]) -> Account
 
 pub fn relist_members(counts: &mut [u64], money: &mut [i64], members: usize, places: [usize; 6])
     requires { ⌜ Long (now counts) (now money) × (members ≤ 64) ⌝ }
-    ensures { λ _. ⌜ Puts (now (counts .entry)) (now (money .entry)) (λ r. walked r (relisted places) members) (now (counts .exit)) (now (money .exit)) ⌝ }
+    ensures { λ _. ⌜ Turns (now (counts .entry)) (now (money .entry)) (now (counts .exit)) (now (money .exit)) (λ r. walked r (relisted places) members) ⌝ }
 {
     let mut i: usize = 0;
     while i < members {

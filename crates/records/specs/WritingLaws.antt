@@ -55,7 +55,7 @@ unfolding all
 zeros [] e = refl
 zeros (x ∷ l) e = let a = and-eq-true-iff (isZero x) (all isZero l) .0 e in ap₂ (λ (y : ℕ) (m : List ℕ). y ∷ m) (eqb-true x 0 (a .0)) (zeros l (a .1))
 
-zeros-all : (n : ℕ) → all isZero (replicate n 0) ≡ true
+pub zeros-all : (n : ℕ) → all isZero (replicate n 0) ≡ true
 unfolding all
 zeros-all zero = refl
 zeros-all (suc n) = zeros-all n

@@ -7,6 +7,7 @@ pub mod StartLaws
 pub mod SoundLaws
 pub mod DealLaws
 pub mod WalkLaws
+pub mod Turns
 pub mod OpenRows
 pub mod OpenRowLaws
 pub mod CloseRows

@@ -19,7 +19,8 @@ use Rattle.standing.specs.StandingLaws.{made, refused-made}
 use Rattle.standing.specs.SoundLaws.{sound-shaped, sound-long, sound-header, first-passed, first-failed, none-left}
 use Rattle.standing.specs.CloseRows.{closedRows}
 use Rattle.standing.specs.CloseRowLaws.{close-rows}
-use Rattle.day_end.specs.Turns.{Whole, Has, Closable}
+use Rattle.standing.specs.Turns.{Whole, Has}
+use Rattle.day_end.specs.Closable.{Closable}
 use Rattle.day_end.specs.ClosableLaws.{rows-closable}
 use Rattle.day_end.proofs.close.Statement.{statement}
 use Rattle.day_end.proofs.close.Tie as tie

@@ -6,7 +6,8 @@ use Rattle.positions.specs.Bounds.{noMark}
 use Rattle.memory.specs.Memory.{Rows}
 use Rattle.memory.specs.MemoryLaws.{memory-long}
 use Rattle.standing.specs.CloseRows.{priced, dayEndIn, firstEnded, booked, renewed}
-use Rattle.day_end.specs.Turns.{Whole, Bookable}
+use Rattle.standing.specs.Turns.{Whole}
+use Rattle.day_end.specs.Closable.{Bookable}
 use Rattle.day_end.specs.ReadLaws.{ended-read}
 use Rattle.day_end.specs.TurnLaws.{bookable-still, booked-whole, renewed-whole, shut-whole}
 use Rattle.day_end.proofs.close_rows.Statement.{statement}

@@ -18,13 +18,13 @@ passed c = ap refusalOf (sym (c .before .before .in-range .ensures) ∙ c .enum-
 in-range-requires : tie.Need-in-range-requires
 in-range-requires c κs = search needs
 
-enum-known-no : tie.Need-enum-known-no
-enum-known-no c = search needs
+enum-known-number : tie.Need-enum-known-number
+enum-known-number c = search needs
 
 returns : tie.Need-returns
 returns c =
     let s = c .before .before .before .before .before in
-    checked-refused (s .pre) _ _ _ (sym (c .before .before .before .in-range .ensures) ∙ c .before .no .given .1)
+    checked-refused (s .pre) _ _ _ (sym (c .before .before .before .in-range .ensures) ∙ c .before .number .given .1)
 
 enum-told : tie.Need-enum-told
 enum-told c = search needs
@@ -62,7 +62,7 @@ call-spec =
     tie.close
     (tie.spec
     in-range-requires
-    enum-known-no
+    enum-known-number
     returns
     enum-told
     call-account-requires

@@ -1,6 +1,6 @@
 -- A number that is not 0 is a refusal's.
 use borrow.Author.Needs.{needs}
-use Rattle.book.specs.KindLaws.{number-refused}
+use Rattle.book.specs.CalledLaws.{number-refused}
 use Rattle.book.proofs.calls.numbered.Statement.{statement}
 use Rattle.book.proofs.calls.numbered.Tie as tie
 

@@ -6,7 +6,7 @@ use Rattle.memory.specs.Layout.{Long}
 use Rattle.memory.specs.MemoryLaws.{memory-long, header-is}
 use Rattle.standing.specs.CloseRows.{closedRow}
 use Rattle.standing.specs.WalkLaws.{walked, walked-shaped, walk-row, walk-step}
-use Rattle.day_end.specs.Turns.{Whole, Turns}
+use Rattle.standing.specs.Turns.{Whole, Turns}
 use Rattle.day_end.specs.TurnLaws.{closed-six}
 use Rattle.day_end.proofs.bookings.close_accounts.Statement.{statement}
 use Rattle.day_end.proofs.bookings.close_accounts.Tie as tie

@@ -7,7 +7,7 @@ use Rattle.whole.specs.Machine.{back}
 use Rattle.memory.specs.Layout.{Long}
 use Rattle.memory.specs.MemoryLaws.{memory-long}
 use Rattle.standing.specs.CloseRows.{priced}
-use Rattle.day_end.specs.Turns.{Whole, Turns}
+use Rattle.standing.specs.Turns.{Whole, Turns}
 use Rattle.day_end.specs.TurnLaws.{pricedTo, priceable-still, priced-step, priced-end}
 use Rattle.day_end.proofs.outcomes.store_outcomes.Statement.{statement}
 use Rattle.day_end.proofs.outcomes.store_outcomes.Tie as tie

@@ -2,7 +2,7 @@ use mathlib.Core.Path.{sym, _∙_}
 use Prim.Native.Nat.{_-_, _≤_}
 use native.Mathlib.Omega.{arith}
 use Rattle.memory.specs.Layout.{Long}
-use Rattle.day_end.specs.Turns.{Turns}
+use Rattle.standing.specs.Turns.{Turns}
 use Rattle.day_end.specs.ReadLaws.{byte-most}
 use Rattle.day_end.specs.TurnLaws.{renewedTo, renewed-step, renewed-end}
 use Rattle.day_end.proofs.renewals.renew_contracts.Statement.{statement}

@@ -1,7 +1,7 @@
 use borrow.Author.Needs.{needs}
 use Rattle.memory.specs.Layout.{contractAt}
-use Rattle.opening.specs.Puts.{still-long}
-use Rattle.opening.specs.RelistLaws.{six-rows, relist-puts}
+use Rattle.opening.specs.Putting.{still-long}
+use Rattle.opening.specs.RelistLaws.{six-rows, relist-turns}
 use Rattle.opening.proofs.listed.relist.Statement.{statement}
 use Rattle.opening.proofs.listed.relist.Tie as tie
 
@@ -42,7 +42,7 @@ returns c =
     let places = rows .before .before .before in
     let h = places .before .before in
     let s = h .before .before .before in
-    relist-puts _ _ (s .pre .1 .0) (s .args .codes) (s .args .rates) (s .args .margins)
+    relist-turns _ _ (s .pre .1 .0) (s .args .codes) (s .args .rates) (s .args .margins)
     (rw (rows .rows-for .ensures, places .places-of .ensures) at (stored .store-rows .ensures))
     (rw (places .places-of .ensures, h .load-header .ensures) at (members .relist-members .ensures))
 

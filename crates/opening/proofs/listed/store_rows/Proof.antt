@@ -2,7 +2,7 @@ use mathlib.Core.Path.{sym, _∙_}
 use Prim.Native.Nat.{_-_}
 use native.Mathlib.Omega.{arith}
 use Rattle.memory.specs.Layout.{Long}
-use Rattle.opening.specs.Puts.{still-long, Putting, putting-none, putting-more, putting-all}
+use Rattle.opening.specs.Putting.{still-long, Putting, putting-none, putting-more, putting-all}
 use Rattle.opening.proofs.listed.store_rows.Statement.{statement}
 use Rattle.opening.proofs.listed.store_rows.Tie as tie
 

@@ -7,13 +7,14 @@ use Rattle.accounts.specs.declared.Account.{Account}
 use Rattle.memory.specs.Layout.{Long}
 use Rattle.standing.specs.WalkLaws.{walked}
 use Rattle.standing.specs.OpenRows.{relisted}
-use Rattle.opening.specs.Puts.{Puts, still-long, walks-none, walks-more}
+use Rattle.standing.specs.Turns.{Turns}
+use Rattle.opening.specs.Putting.{still-long, walks-none, walks-more}
 use Rattle.opening.proofs.members.relist_members.Statement.{statement}
 use Rattle.opening.proofs.members.relist_members.Tie as tie
 
 abbrev Inv-loop : tie.InvT-loop
 Inv-loop counts₀ money₀ members places i₀ counts money i =
-    (i ≤ members) × (Long counts money × Puts counts₀ money₀ (λ r. walked r (relisted places) i) counts money)
+    (i ≤ members) × (Long counts money × Turns counts₀ money₀ counts money (λ r. walked r (relisted places) i))
 
 abbrev μ-loop : tie.MeasureT-loop
 μ-loop counts₀ money₀ members places i₀ counts money i = members - i

@@ -1,4 +1,4 @@
--- What the steps of a close ask of a memory, and what they make of it.
+-- What the steps of a close ask of the rows that a memory holds.
 use mathlib.Core.Path.{_≡_}
 use mathlib.Core.Bool.{true}
 use mathlib.Core.List.{List}
@@ -14,26 +14,8 @@ use Rattle.funds.specs.Bounds.{daysMost}
 use Rattle.accounts.specs.Bounds as accounts
 use Rattle.memory.specs.Rows.{blankContract, blankAccount}
 use Rattle.memory.specs.Layout.{contractAt, outcomeAt}
-use Rattle.memory.specs.Memory.{Rows, Shaped, Holds}
+use Rattle.memory.specs.Memory.{Rows}
 use Rattle.standing.specs.CloseRows.{exceptionsIn, priced, markFrom, dayEndIn}
-
--- the memory holds these rows, and they have its form
-pub record Whole (c : List ℕ) (m : List ℤ) (r : Rows) : Type 0 where
-  pub shaped : Shaped r
-  pub holds : Holds c m r
-
--- the memory holds rows of which something is known
-pub record Has (P : Rows → Type 0) (c : List ℕ) (m : List ℤ) : Type 0 where
-  pub rows : Rows
-  pub whole : Whole c m rows
-  pub known : P rows
-
--- what is read of the rows that a memory holds, and what is made of them
-abbrev pub Tells : {A : Type 0} → List ℕ → List ℤ → A → (Rows → A) → Type 0
-Tells c m a f = (r : Rows) → Whole c m r → a ≡ f r
-
-abbrev pub Turns : List ℕ → List ℤ → List ℕ → List ℤ → (Rows → Rows) → Type 0
-Turns c m c′ m′ f = (r : Rows) → Whole c m r → Whole c′ m′ (f r)
 
 -- how the contract in row k is marked
 abbrev pub markAt : List ℕ → List ℤ → ℕ → Mark
