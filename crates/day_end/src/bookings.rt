@@ -52,7 +52,7 @@ fn marks_of(counts: &[u64], money: &[i64]) -> [Mark; 6]
 }
 
 // What the close has for every account, once the outcomes stand in their rows.
-pub fn day_end(counts: &[u64], money: &[i64]) -> DayEnd
+pub(crate) fn day_end(counts: &[u64], money: &[i64]) -> DayEnd
     requires { ⌜ Long (now counts) (now money) ⌝ }
     ensures { λ d. ⌜ Tells (now (counts .entry)) (now (money .entry)) d dayEndIn ⌝ }
 {
@@ -98,7 +98,7 @@ fn closed_row(a: Account, d: DayEnd, ended: bool) -> Account
 }
 
 // The close of each account.
-pub fn close_accounts(counts: &mut [u64], money: &mut [i64], d: DayEnd, ended: bool)
+pub(crate) fn close_accounts(counts: &mut [u64], money: &mut [i64], d: DayEnd, ended: bool)
     requires { ⌜ Has (Bookable d) (now counts) (now money) ⌝ }
     ensures { λ _. ⌜ Turns (now (counts .entry)) (now (money .entry)) (now (counts .exit)) (now (money .exit)) (bookedWith ended d) ⌝ }
 {

@@ -59,7 +59,7 @@ fn outcome_at(counts: &[u64], money: &[i64], k: usize, final_rate: i64) -> Outco
 }
 
 // The outcomes, each in its contract's row.
-pub fn store_outcomes(counts: &mut [u64], money: &mut [i64], final_rate: i64)
+pub(crate) fn store_outcomes(counts: &mut [u64], money: &mut [i64], final_rate: i64)
     requires { ⌜ Has Priceable (now counts) (now money) ⌝ }
     ensures { λ _. ⌜ Turns (now (counts .entry)) (now (money .entry)) (now (counts .exit)) (now (money .exit)) (priced «final_rate») ⌝ }
 {

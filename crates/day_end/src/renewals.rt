@@ -38,7 +38,7 @@ fn renewed_at(counts: &[u64], money: &[i64], k: usize) -> Contract
 }
 
 // The contracts renewed, and moved up where the first has ended.
-pub fn renew_contracts(counts: &mut [u64], money: &mut [i64], ended: bool)
+pub(crate) fn renew_contracts(counts: &mut [u64], money: &mut [i64], ended: bool)
     requires { ⌜ Long (now counts) (now money) ⌝ }
     ensures { λ _. ⌜ Turns (now (counts .entry)) (now (money .entry)) (now (counts .exit)) (now (money .exit)) (renewedWith ended) ⌝ }
 {
@@ -52,7 +52,7 @@ pub fn renew_contracts(counts: &mut [u64], money: &mut [i64], ended: bool)
 }
 
 // The day is over.
-pub fn shut_header(counts: &mut [u64], ended: bool)
+pub(crate) fn shut_header(counts: &mut [u64], ended: bool)
     requires { ⌜ length (now counts) ≡ countsLong ⌝ }
     ensures { λ _. ⌜ now (counts .exit) ≡ withHeader (now (counts .entry)) (shutHeader ended (headerAt (now (counts .entry)))) ⌝ }
 {

@@ -11,7 +11,7 @@ use days::next_working;
 use memory::Header;
 
 // Whether the book stands before its first day or between two.
-pub fn is_shut(point: u64) -> bool
+pub(crate) fn is_shut(point: u64) -> bool
     ensures { λ r. ⌜ r ≡ (eqb point 1 || eqb point 4) ⌝ }
 {
     if point == 1 {
@@ -21,7 +21,7 @@ pub fn is_shut(point: u64) -> bool
 }
 
 // Whether a day works and is the book's first or the next after the one closed.
-pub fn opens_on(exceptions: &[u64], h: Header, day: u64) -> bool
+pub(crate) fn opens_on(exceptions: &[u64], h: Header, day: u64) -> bool
     requires { ⌜ (rising (now exceptions) ≡ true) × (h .day ≤ 3652) ⌝ }
     ensures { λ r. ⌜ r ≡ opensOn (now (exceptions .entry)) h day ⌝ }
 {

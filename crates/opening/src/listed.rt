@@ -113,7 +113,7 @@ fn store_rows(counts: &mut [u64], money: &mut [i64], rows: [Contract; 6])
 }
 
 // The codes of a day in the rows of those listed so far, and each account's positions with them.
-pub fn relist(
+pub(crate) fn relist(
     counts: &mut [u64],
     money: &mut [i64],
     codes: [u64; 6],

@@ -25,7 +25,7 @@ fn bill_in(a: Account) -> Bill
 }
 
 // What is shown of the account of a number, if there is one.
-pub fn billed(counts: &[u64], money: &[i64], number: u64) -> Billed
+pub(crate) fn billed(counts: &[u64], money: &[i64], number: u64) -> Billed
     requires { ⌜ Sound (now counts) (now money) ⌝ }
     ensures { λ r. ⌜ r ≡ billedIn (view (now (counts .entry)) (now (money .entry))) number ⌝ }
 {

@@ -38,7 +38,7 @@ fn lowest(counts: &[u64], first: usize, width: usize, rows: usize, from: u64) ->
 }
 
 // The lowest code of the last close.
-pub fn lowest_code(counts: &[u64], code: u64) -> Lowest
+pub(crate) fn lowest_code(counts: &[u64], code: u64) -> Lowest
     requires { ⌜ (length (now counts) ≡ countsLong) × (headerAt (now counts) .settled ≤ 6) ⌝ }
     ensures { λ r. ⌜ r ≡ lowestFrom code (tab (settledCodeAt (now (counts .entry))) (headerAt (now (counts .entry)) .settled)) ⌝ }
 {
@@ -47,7 +47,7 @@ pub fn lowest_code(counts: &[u64], code: u64) -> Lowest
 }
 
 // The lowest account number.
-pub fn lowest_member(counts: &[u64], number: u64) -> Lowest
+pub(crate) fn lowest_member(counts: &[u64], number: u64) -> Lowest
     requires { ⌜ (length (now counts) ≡ countsLong) × (headerAt (now counts) .members ≤ 64) ⌝ }
     ensures { λ r. ⌜ r ≡ lowestFrom number (tab (numberAt (now (counts .entry))) (headerAt (now (counts .entry)) .members)) ⌝ }
 {

@@ -37,7 +37,7 @@ fn settled_in(x: Outcome) -> Settled
 }
 
 // What the row of a code says, if there is one.
-pub fn rated(counts: &[u64], money: &[i64], code: u64) -> Rated
+pub(crate) fn rated(counts: &[u64], money: &[i64], code: u64) -> Rated
     requires { ⌜ Sound (now counts) (now money) ⌝ }
     ensures { λ r. ⌜ r ≡ ratedIn (view (now (counts .entry)) (now (money .entry))) code ⌝ }
 {
