@@ -55,7 +55,12 @@ fn relisted(a: Account, places: [usize; 6]) -> Account
     b
 }
 
-pub(crate) fn relist_members(counts: &mut [u64], money: &mut [i64], members: usize, places: [usize; 6])
+pub(crate) fn relist_members(
+    counts: &mut [u64],
+    money: &mut [i64],
+    members: usize,
+    places: [usize; 6],
+)
     requires { ⌜ Long (now counts) (now money) × (members ≤ 64) ⌝ }
     ensures { λ _. ⌜ Turns (now (counts .entry)) (now (money .entry)) (now (counts .exit)) (now (money .exit)) (λ r. walked r (relisted places) members) ⌝ }
 {
