@@ -1,3 +1,4 @@
+pub mod Announced
 pub mod Answered
 pub mod Called
 pub mod CalledLaws

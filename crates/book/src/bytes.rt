@@ -1,7 +1,9 @@
 // Bytes on a book: a record at a place, and a whole file.
+ghost use Prim.Native.Nat.{_≤_};
 ghost use Rattle.numbers.specs.Place.{storedFrom};
 ghost use Rattle.records.specs.Records.{entry};
 ghost use Rattle.standing.specs.Made.{Sound};
+ghost use Rattle.book.specs.Announced.{CalledFrom};
 ghost use Rattle.book.specs.Called.{Called};
 ghost use Rattle.book.specs.Feeding.{FedAt, Ran};
 use crate::calls::Answer;
@@ -37,6 +39,27 @@ fn call_read(
     call(counts, money, kind, fields, list)
 }
 
+// The same with room for as many exceptions as the record announces. Only a start has any: for the others no room is cleared.
+fn call_announced(
+    counts: &mut [u64; COUNTS],
+    money: &mut [i64; MONEY],
+    bytes: &[u8],
+    kind: u64,
+    fields: [u64; WIDTH],
+    more: usize,
+    count: usize,
+) -> Answer
+    requires { ⌜ Sound (now counts) (now money) × (count ≤ 400) ⌝ }
+    ensures { λ r. ⌜ CalledFrom (now (bytes .entry)) more count kind fields (now (counts .entry)) (now (money .entry)) r (now (counts .exit)) (now (money .exit)) ⌝ }
+{
+    if count == 0 {
+        let mut none = [0u64; 1];
+        return call_read(counts, money, bytes, kind, fields, more, &mut none[..count]);
+    }
+    let mut list = [0u64; 400];
+    call_read(counts, money, bytes, kind, fields, more, &mut list[..count])
+}
+
 // The record at a place of some bytes, on a book.
 pub fn feed(counts: &mut [u64; COUNTS], money: &mut [i64; MONEY], bytes: &[u8], at: usize) -> Fed
     requires { ⌜ Sound (now counts) (now money) ⌝ }
@@ -51,8 +74,7 @@ pub fn feed(counts: &mut [u64; COUNTS], money: &mut [i64; MONEY], bytes: &[u8], 
         records::Answer::Malformed(first) => Fed::Malformed(first),
         records::Answer::Next(next) => {
             let count = announced(kind, fields) as usize;
-            let mut list = [0u64; 400];
-            let answer = call_read(counts, money, bytes, kind, fields, more, &mut list[..count]);
+            let answer = call_announced(counts, money, bytes, kind, fields, more, count);
             Fed::Next(next, answer)
         }
     }

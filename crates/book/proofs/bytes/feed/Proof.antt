@@ -1,7 +1,5 @@
 -- What was read is called, with room for the exceptions that it announces.
 use mathlib.Core.Path.{sym, ap, _∙_}
-use native.Mathlib.Omega.{arith}
-use lib.ListN.{length-take}
 use borrow.Author.Needs.{needs}
 use Rattle.records.specs.declared.Reading.{Reading}
 use Rattle.records.specs.ReadingLaws.{Stands}
@@ -30,17 +28,9 @@ enum-known-place-2 c = search needs
 announced-requires : tie.Need-announced-requires
 announced-requires c κs = search needs
 
-array-borrow-prefix-list : tie.Need-array-borrow-prefix-list
-array-borrow-prefix-list c = rw (c .before .before .announced .ensures) (announced-few (stands (c .before .before .before)))
-
-slice-aggregate-call-read : tie.Need-slice-aggregate-call-read
-slice-aggregate-call-read c =
-    let few = announced-few (stands (c .before .before .before .before)) in
-    let n = c .before .before .before .announced .ensures in
-    simp length-take (omega arith)
-
-call-read-requires : tie.Need-call-read-requires
-call-read-requires c κs = search needs
+call-announced-requires : tie.Need-call-announced-requires
+call-announced-requires c κs =
+    (c .before .before .before .before .before .before .before .before .before .pre, rw (c .before .before .announced .ensures) (announced-few (stands (c .before .before .before))))
 
 returns : tie.Need-returns
 returns c =
@@ -49,8 +39,8 @@ returns c =
 
 returns-2 : tie.Need-returns-2
 returns-2 c =
-    let long = sym (slice-aggregate-call-read (c .before .before)) ∙ c .before .before .before .before .before .announced .ensures in
-    fed-next (stands (c .before .before .before .before .before .before)) _ long (c .before .call-read .ensures)
+    let f = c .call-announced .ensures in
+    fed-next (stands (c .before .before .before .before)) (f .list) (f .long ∙ c .before .before .before .announced .ensures) (f .called)
 
 pub feed-spec : {M : Type 1} → statement M
 feed-spec =
@@ -60,8 +50,6 @@ feed-spec =
     enum-known-place
     enum-known-place-2
     announced-requires
-    array-borrow-prefix-list
-    slice-aggregate-call-read
-    call-read-requires
+    call-announced-requires
     returns
     returns-2)

@@ -1,0 +1,4 @@
+pub mod Decimal
+pub mod DecimalLaws
+pub mod Put
+pub mod PutLaws
