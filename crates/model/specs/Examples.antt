@@ -1,4 +1,4 @@
--- Document 01's printed day and its twelve marked examples, as statements. ExampleLaws computes them.
+-- Document 01's printed day and its twelve marked examples, as statements. The crate `examples` computes them.
 use mathlib.Core.Path.{_≡_}
 use mathlib.Core.Bool.{true, false}
 use mathlib.Core.List.{List, [], _∷_, _++_, map}

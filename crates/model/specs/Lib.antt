@@ -8,7 +8,6 @@ pub mod Bounds
 pub mod Promises
 pub mod Entries
 pub mod Examples
-pub mod Alive
 pub mod SumLaws
 pub mod StepLaws
 pub mod RefusalLaws
@@ -32,5 +31,3 @@ pub mod HeldLaws
 pub mod BoundLaws
 pub mod PromiseLaws
 pub mod CourseLaws
-pub mod ExampleLaws
-pub mod AliveLaws

@@ -32,15 +32,15 @@ use Rattle.holdings.specs.Limits.{totalsOf, isOver}
 use Rattle.closing.specs.DayEnd.{atClose, overLimit, requirement, withCore}
 use Rattle.funds.specs.Funds as funds
 use Rattle.accounts.specs.Accounts.{closed}
 use Rattle.model.specs.Book.{new}
 use Rattle.model.specs.Calls.{callOf}
 use Rattle.model.specs.Effects.{after}
 use Rattle.model.specs.Refusals.{firstOf, refusal}
 use Rattle.model.specs.History as history
 use Rattle.model.specs.History.{booked, movedTo, hasEnded}
 use Rattle.model.specs.Entries.{settles}
 use Rattle.model.specs.CourseLaws.{afterAll, stepsOf, refusals, Course, Runs, further, further-runs, opened, opened-runs, atStart, start-runs}
-use Rattle.model.specs.Alive.{enrolAndPay, lastDay, payAndClose, Alive}
+use Rattle.examples.specs.Alive.{enrolAndPay, lastDay, payAndClose, Alive}
 
 -- ---- part by part: each call passes
 abbrev through1357 : List ℕ

@@ -1,0 +1,106 @@
+//! Big event files for measuring speed; every record in them is accepted.
+
+use crate::records::*;
+use crate::script::{Random, Script};
+
+const ACCOUNTS: i64 = 64;
+const FIRST_DAY: i64 = 5;
+const FIRST_ACCOUNT: i64 = 1_000_001;
+const MORNING_OPENS: i64 = 32_400;
+const AFTERNOON_OPENS: i64 = 48_600;
+const LAST_HOUR_OPENS: i64 = 55_800;
+const HOURS_END: i64 = 59_400;
+
+/// Days of 10,000 trades and 120,000 quotes, half of them in the last hour.
+pub fn busy(days: u64) -> Vec<u8> {
+    let mut script = begin(1);
+    for _ in 0..days {
+        open_day(&mut script);
+        trades_and_quotes(&mut script, 10_000, 120_000);
+        accepted(&mut script, CLOSE, &[23_000]);
+    }
+    script.bytes
+}
+
+/// Days of 200 trades, 200 quotes and some payments.
+pub fn years(days: u64) -> Vec<u8> {
+    let mut script = begin(2);
+    for _ in 0..days {
+        open_day(&mut script);
+        accepted(&mut script, REFRESH, &[]);
+        for _ in 0..10 {
+            let account = any_account(&mut script.random);
+            let amount = script.random.between(1, 1_000_000);
+            accepted(&mut script, PAY_IN, &[account, amount]);
+            accepted(&mut script, PAY_OUT, &[account, amount]);
+        }
+        trades_and_quotes(&mut script, 200, 200);
+        let final_rate = script.random.between(22_000, 24_000);
+        accepted(&mut script, CLOSE, &[final_rate]);
+    }
+    script.bytes
+}
+
+/// A start, and accounts with large limits that are paid in.
+fn begin(seed: u64) -> Script {
+    let mut script = Script::new(seed);
+    accepted(&mut script, START, &[3_000_000, 120, 0]);
+    for account in FIRST_ACCOUNT..FIRST_ACCOUNT + ACCOUNTS {
+        accepted(&mut script, ENROL, &[account, 100_000, 1_000_000]);
+        accepted(&mut script, PAY_IN, &[account, 100_000_000_000_000]);
+    }
+    script
+}
+
+fn accepted(script: &mut Script, kind: usize, values: &[i64]) {
+    assert!(script.send(kind, values), "a record of kind {kind} was refused: {values:?}");
+}
+
+fn any_account(random: &mut Random) -> i64 {
+    random.between(FIRST_ACCOUNT, FIRST_ACCOUNT + ACCOUNTS - 1)
+}
+
+fn open_day(script: &mut Script) {
+    let day = script.book.calendar.next_working_day(script.book.day.max(FIRST_DAY));
+    let mut values = vec![day.unwrap_or(0)];
+    values.extend([23_000; 6]);
+    values.extend([3_000_000; 6]);
+    accepted(script, OPEN, &values);
+    accepted(script, SETTLE, &[]);
+}
+
+/// Trades and quotes in random order at rising times.
+fn trades_and_quotes(script: &mut Script, trades: i64, quotes: i64) {
+    let count = trades + quotes;
+    let mut trades_left = trades;
+    for turn in 0..count {
+        let time = time_of_turn(turn, count);
+        let row = script.random.below(6);
+        let code = script.book.contracts[row].month.code;
+        let rate = script.random.between(22_000, 24_000);
+        if script.random.between(1, count - turn) <= trades_left {
+            trades_left -= 1;
+            let buyer = any_account(&mut script.random);
+            let step = script.random.between(1, ACCOUNTS - 1);
+            let seller = FIRST_ACCOUNT + (buyer - FIRST_ACCOUNT + step) % ACCOUNTS;
+            let lots = script.random.between(1, 10);
+            accepted(script, TRADE, &[time, code, buyer, seller, lots, rate]);
+        } else {
+            let side = script.random.between(0, 1);
+            accepted(script, QUOTE, &[time, code, side, rate]);
+        }
+    }
+}
+
+/// Half of the turns fall evenly in the last hour, the others in the hours before it.
+fn time_of_turn(turn: i64, count: i64) -> i64 {
+    let half = count / 2;
+    if turn >= half {
+        return LAST_HOUR_OPENS + (turn - half) * (HOURS_END - LAST_HOUR_OPENS) / (count - half);
+    }
+    let morning_turns = half / 2;
+    if turn < morning_turns {
+        return MORNING_OPENS + turn * 10_800 / morning_turns;
+    }
+    AFTERNOON_OPENS + (turn - morning_turns) * (LAST_HOUR_OPENS - AFTERNOON_OPENS) / (half - morning_turns)
+}
