@@ -1,0 +1,5 @@
+pub mod Lines
+pub mod OrderLaws
+pub mod LineLaws
+pub mod KeyLaws
+pub mod LengthLaws

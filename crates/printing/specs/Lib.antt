@@ -1,0 +1,7 @@
+pub mod FedLaws
+pub mod Printed
+pub mod PrintedLaws
+pub mod Walks
+pub mod WalksLaws
+pub mod WindowLaws
+pub mod Turns

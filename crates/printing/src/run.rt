@@ -1,0 +1,245 @@
+// A file printed: it is taken in blocks, and its text is gathered and written whenever the room for it is nearly full. No contract can say
+// what is read and written; what a record puts into the room is `print_record`'s to promise.
+ghost use Prim.Native.Nat.{_+_, _≤_, _<_};
+ghost use mathlib.Core.Path.{_≡_};
+ghost use mathlib.Core.Bool.{true, false};
+ghost use lib.ListN.{length};
+ghost use Rattle.standing.specs.Made.{Sound};
+ghost use Rattle.printing.specs.Turns.{Within, GoesOn, Nearer};
+use crate::one_record::Printed;
+use crate::one_record::print_record;
+use book::new_book;
+use memory::COUNTS;
+use memory::MONEY;
+
+// How many bytes of the file are held at a time, and how many of the text.
+const BLOCK: usize = 65536;
+
+// No record is longer: a kind, thirteen fields and four hundred exceptions of ten bytes each.
+const LONGEST: usize = 4140;
+
+// Text up to here leaves room for the longest answer.
+const NEARLY_FULL: usize = 57136;
+
+// The bytes of a block from `from` up to `to` are read and not yet printed. The first of them is at `place` in the file. `ended`: the file
+// has no more.
+struct Window {
+    from: usize,
+    to: usize,
+    place: u64,
+    ended: bool,
+}
+
+// How far a block is printed, and where its text ends. `bad`: a bad record ended it.
+struct Progress {
+    at: usize,
+    place: u64,
+    used: usize,
+    bad: bool,
+}
+
+// What a turn leaves: a window to go on with, or whether all was written.
+enum Turn {
+    On(Window),
+    Ended(bool),
+}
+
+// Moves what is left to the front of the block, and answers how much that is.
+fn move_down(block: &mut [u8], from: usize, to: usize) -> usize
+    requires { ⌜ (from ≤ to) × (to ≤ length (now block)) ⌝ }
+    ensures { λ r. ⌜ from + r ≡ to ⌝ }
+{
+    let mut moved: usize = 0;
+    while from + moved < to {
+        block[moved] = block[from + moved];
+        moved += 1;
+    }
+    moved
+}
+
+// Reads on behind what is left, unless that has a whole record for certain. A block that is not filled has the file's end.
+fn refill(input: i32, block: &mut [u8], w: Window) -> Window
+    requires { ⌜ Within (length (now block)) w ⌝ }
+    ensures { λ r. ⌜ Within (length (now (block .entry))) r ⌝ }
+{
+    if w.ended {
+        return w;
+    }
+    if LONGEST <= w.to - w.from {
+        return w;
+    }
+    let left = move_down(&mut *block, w.from, w.to);
+    let got = io::read_full(input, &mut block[left..]);
+    let to = left + got;
+    Window {
+        from: 0,
+        to,
+        place: w.place,
+        ended: to < block.len(),
+    }
+}
+
+// Whether another record can be printed: none before was bad, its text has room, and it is whole, since enough bytes follow or the file
+// has no more.
+fn is_next(p: Progress, end: usize, ended: bool) -> bool
+    requires { ⌜ p .at ≤ end ⌝ }
+    ensures { λ r. ⌜ (r ≡ true → (p .bad ≡ false) × ((p .at < end) × (p .used ≤ 57136))) ⌝ }
+{
+    if p.bad {
+        return false;
+    }
+    if NEARLY_FULL < p.used {
+        return false;
+    }
+    let left = end - p.at;
+    if ended {
+        return 0 < left;
+    }
+    LONGEST <= left
+}
+
+// Prints the next record.
+fn print_next(
+    counts: &mut [u64; COUNTS],
+    money: &mut [i64; MONEY],
+    bytes: &[u8],
+    room: &mut [u8],
+    p: Progress,
+) -> Progress
+    requires { ⌜ Sound (now counts) (now money) × ((p .at < length (now bytes)) × (p .used + 8400 ≤ length (now room))) ⌝ }
+    ensures { λ r. ⌜ Sound (now (counts .exit)) (now (money .exit)) × Nearer (length (now (bytes .entry))) p r ⌝ }
+{
+    let at = p.at;
+    let printed = print_record(counts, money, bytes, at, p.place, room, p.used);
+    match printed {
+        Printed::Bad(after) => Progress {
+            at,
+            place: p.place,
+            used: after,
+            bad: true,
+        },
+        Printed::Next(next, after) => {
+            let place = std::num::wrapping_add_u64(p.place, (next - at) as u64);
+            Progress {
+                at: next,
+                place,
+                used: after,
+                bad: false,
+            }
+        }
+    }
+}
+
+// Prints record after record, until one is bad, the room is nearly full or a record might be cut.
+fn print_block(
+    counts: &mut [u64; COUNTS],
+    money: &mut [i64; MONEY],
+    bytes: &[u8],
+    room: &mut [u8],
+    w: Window,
+) -> Progress
+    requires { ⌜ Sound (now counts) (now money) × ((w .from ≤ length (now bytes)) × (65536 ≤ length (now room))) ⌝ }
+    ensures { λ r. ⌜ Sound (now (counts .exit)) (now (money .exit)) × ((r .at ≤ length (now (bytes .entry))) × (r .used ≤ 65536)) ⌝ }
+{
+    let mut p = Progress {
+        at: w.from,
+        place: w.place,
+        used: 0,
+        bad: false,
+    };
+    while is_next(p, bytes.len(), w.ended) {
+        p = print_next(&mut *counts, &mut *money, bytes, &mut *room, p);
+    }
+    p
+}
+
+// Whether a file is done: it ended at a bad record, or all of it is printed.
+fn turned(p: Progress, w: Window) -> Turn
+    requires { ⌜ p .at ≤ w .to ⌝ }
+    ensures { λ r. ⌜ GoesOn (w .to) r ⌝ }
+{
+    if p.bad {
+        return Turn::Ended(true);
+    }
+    if w.ended {
+        if p.at == w.to {
+            return Turn::Ended(true);
+        }
+    }
+    Turn::On(Window {
+        from: p.at,
+        to: w.to,
+        place: p.place,
+        ended: w.ended,
+    })
+}
+
+// A turn: reads on where it must, prints what it can, and writes that.
+fn take_turn(
+    counts: &mut [u64; COUNTS],
+    money: &mut [i64; MONEY],
+    input: i32,
+    output: i32,
+    block: &mut [u8],
+    room: &mut [u8],
+    before: Window,
+) -> Turn
+    requires { ⌜ Sound (now counts) (now money) × (Within (length (now block)) before × (65536 ≤ length (now room))) ⌝ }
+    ensures { λ r. ⌜ Sound (now (counts .exit)) (now (money .exit)) × GoesOn (length (now (block .entry))) r ⌝ }
+{
+    let w = refill(input, &mut *block, before);
+    let to = w.to;
+    let p = print_block(counts, money, &block[..to], &mut *room, w);
+    let used = p.used;
+    if !io::write_all(output, &room[..used]) {
+        return Turn::Ended(false);
+    }
+    turned(p, w)
+}
+
+// Takes turns until the file is done or a write fails, and answers whether all was written. A turn that does not end the run takes at least
+// a byte of the file, so that the turns are enough for any file.
+fn take_turns(
+    counts: &mut [u64; COUNTS],
+    money: &mut [i64; MONEY],
+    input: i32,
+    output: i32,
+    block: &mut [u8],
+    room: &mut [u8],
+) -> bool
+    requires { ⌜ Sound (now counts) (now money) × (65536 ≤ length (now room)) ⌝ }
+{
+    let mut w = Window {
+        from: 0,
+        to: 0,
+        place: 0,
+        ended: false,
+    };
+    let mut turns = u64::MAX;
+    while 0 < turns {
+        let turn = take_turn(counts, money, input, output, &mut *block, &mut *room, w);
+        match turn {
+            Turn::Ended(written) => return written,
+            Turn::On(next) => {
+                w = next;
+            }
+        }
+        turns -= 1;
+    }
+    false
+}
+
+// Lends arrays as the block and the room. Their lengths are known by their types, and are not counted out.
+fn run_within(input: i32, output: i32, block: &mut [u8; BLOCK], room: &mut [u8; BLOCK]) -> bool {
+    let mut counts = [0u64; COUNTS];
+    let mut money = [0i64; MONEY];
+    new_book(&mut counts, &mut money);
+    take_turns(&mut counts, &mut money, input, output, block, room)
+}
+
+// Prints the day of the file that `input` reads, and answers whether all of it was written.
+pub fn run_day(input: i32, output: i32) -> bool {
+    let mut block = [0u8; BLOCK];
+    let mut room = [0u8; BLOCK];
+    run_within(input, output, &mut block, &mut room)
+}
