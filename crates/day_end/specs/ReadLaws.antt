@@ -6,7 +6,7 @@ use Prim.Native.Nat.{ℕ, _+_, _-_, _≤_, _<_}
 use native.Mathlib.Decide.{decLt}
 use native.Mathlib.Omega.{arith}
 use lib.IntN.{ℤ, pos}
-use lib.ListN.{length, getD, take, drop, length-map, length-drop, List·getD-eq-default}
+use lib.ListN.{length, getD, drop, length-map, length-drop, List·getD-eq-default}
 use lib.Seq.{getD-drop}
 use mir.Val.{boolByte}
 use Rattle.lists.specs.Padded.{padded}
@@ -32,9 +32,10 @@ use Rattle.memory.specs.declared.outcome_rows.Outcome.{Outcome}
 use Rattle.memory.specs.Rows.{blankContract, blankOutcome}
 use Rattle.memory.specs.Layout.{headerAt, contractAt, outcomeAt, marginAt}
 use Rattle.memory.specs.Memory.{Rows, Shaped}
-use Rattle.memory.specs.MemoryLaws.{header-is, exceptions-part, contract-is, outcome-is, margin-is}
+use Rattle.memory.specs.MemoryLaws.{header-is, contract-is, outcome-is, margin-is}
 use Rattle.model.specs.Book.{noTally}
-use Rattle.standing.specs.CloseRows.{outcomeFrom, outcomeIn, outcomeFor, markFrom, dayEndIn, firstEnded, movedUp, renewedRow, renewedAt}
+use Rattle.standing.specs.SoundLaws.{exceptions-read}
+use Rattle.standing.specs.CloseRows.{exceptionsIn, outcomeFrom, outcomeIn, outcomeFor, markFrom, dayEndIn, firstEnded, movedUp, renewedRow, renewedAt}
 use Rattle.standing.specs.Turns.{Whole}
 use Rattle.day_end.specs.Closable.{markAt}
 
@@ -85,9 +86,8 @@ module _ {c : List ℕ} {m : List ℤ} (r : Rows) (w : Whole c m r) where
   outcome-read {h} {x} k final q e few p t =
       ap (λ ending. outcomeFrom x ending final)
       (t
-      ∙ ap (λ l. isOn (h .day) (lastTradingOf (isWorking l) (x .code))) (exceptions-part r (w .shaped) (w .holds) (h .exceptions) few)
-      ∙ ap (λ (g : Header). isOn (g .day) (lastTradingOf (isWorking (take (g .exceptions) (r .exceptions))) (x .code)))
-      (e ∙ header-is r (w .shaped) (w .holds)))
+      ∙ ap (λ l. isOn (h .day) (lastTradingOf (isWorking l) (x .code))) (exceptions-read r w e few)
+      ∙ ap (λ (g : Header). isOn (g .day) (lastTradingOf (isWorking (exceptionsIn r)) (x .code))) (e ∙ header-is r (w .shaped) (w .holds)))
       ∙ ap (outcomeIn r final) (p ∙ contract-is r (w .shaped) (w .holds) k q)
 
   both-at : {A : Type 0} (f : Contract → Outcome → A) (a : A) (k : ℕ) → k < 6

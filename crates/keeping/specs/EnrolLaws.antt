@@ -29,7 +29,8 @@ use Rattle.standing.specs.Made.{Sound, decided, Made}
 use Rattle.standing.specs.Good.{Good, good}
 use Rattle.standing.specs.StandingLaws.{made, refused-made}
 use Rattle.standing.specs.MemberLaws.{oneMore, member-at, member-none, enrolled-rows}
-use Rattle.standing.specs.SoundLaws.{sound-shaped, sound-header, first-passed, first-failed, none-left}
+use Rattle.standing.specs.SoundLaws.{sound-shaped, first-passed, first-failed, none-left}
+use Rattle.keeping.specs.HeaderLaws.{same-header, same-point}
 
 module _ {c : List ℕ} {m : List ℤ} (s : Sound c m) (n : ℕ) (l : Limits) {h : Header} (loads : h ≡ headerAt c) where
   abbrev book : Book
@@ -39,10 +40,7 @@ module _ {c : List ℕ} {m : List ℤ} (s : Sound c m) (n : ℕ) (l : Limits) {h
   g = good (s .history)
 
   same : headerRow book ≡ h
-  same = sym (loads ∙ sound-header s)
-
-  same-point : isStarted (book .today .point) ≡ ltb 0 (h .point)
-  same-point = ap (λ (x : Header). ltb 0 (x .point)) same
+  same = same-header s loads
 
   same-members : ltb (length (book .accounts .members)) 64 ≡ ltb (h .members) 64
   same-members = ap (λ (x : Header). ltb (x .members) 64) same
@@ -51,11 +49,11 @@ module _ {c : List ℕ} {m : List ℤ} (s : Sound c m) (n : ℕ) (l : Limits) {h
   enrol-reference = record { most = subst (λ (x : Header). x .reference ≤ 100000000) same (g .sized .settings .reference) }
 
   pub enrol-early : h .point ≡ 0 → Made c m (enrol n l) 3 c m
-  enrol-early e = refused-made s (enrol n l) 2 (first-failed 2 _ (same-point ∙ ap (ltb 0) e))
+  enrol-early e = refused-made s (enrol n l) 2 (first-failed 2 _ (same-point s loads ∙ ap (ltb 0) e))
 
   module _ (begun : h .point ≡ 0 → ⊥) {f : Found} (finds : f ≡ seek (numberAt c) n (headerAt c .members) 0) where
     started : isStarted (book .today .point) ≡ true
-    started = same-point ∙ lt-ltb 0 (h .point) (omega arith)
+    started = same-point s loads ∙ lt-ltb 0 (h .point) (omega arith)
 
     pub enrol-known : {i : ℕ} → f ≡ At i → Made c m (enrol n l) 6 c m
     enrol-known {i} e =

@@ -4,5 +4,6 @@ pub mod Changes
 pub mod ChangeLaws
 pub mod Payments
 pub mod PaymentLaws
+pub mod HeaderLaws
 pub mod EnrolLaws
 pub mod StartLaws

@@ -4,7 +4,6 @@ use mathlib.Core.Bool.{Bool, true, false, not}
 use mathlib.Core.List.{List}
 use Prim.Native.Nat.{ℕ, _≤_, _<_}
 use borrow.Author.Tests.{lt-ltb, le-ltb}
-use lib.Dec.{ltb}
 use lib.IntN.{ℤ}
 use lib.ListN.{length}
 use Rattle.lists.specs.Parts.{withPart}
@@ -22,24 +21,19 @@ use Rattle.standing.specs.Standing.{headerRow, rowsOf}
 use Rattle.standing.specs.Made.{Sound, Made}
 use Rattle.standing.specs.StandingLaws.{made, refused-made}
 use Rattle.standing.specs.StartLaws.{clean, startedHeader, started-rows}
-use Rattle.standing.specs.SoundLaws.{sound-shaped, sound-header, first-passed, first-failed, none-left}
+use Rattle.standing.specs.SoundLaws.{sound-shaped, first-passed, first-failed, none-left}
+use Rattle.keeping.specs.HeaderLaws.{same-header, same-point}
 
 module _ {c : List ℕ} {m : List ℤ} (s : Sound c m) (x : Settings) {h : Header} (loads : h ≡ headerAt c) where
   abbrev book : Book
   book = run (s .history)
 
-  same : headerRow book ≡ h
-  same = sym (loads ∙ sound-header s)
-
-  same-point : isStarted (book .today .point) ≡ ltb 0 (h .point)
-  same-point = ap (λ (y : Header). ltb 0 (y .point)) same
-
   pub start-late : 0 < h .point → Made c m (start x) 3 c m
-  start-late e = refused-made s (start x) 2 (first-failed 2 _ (ap not (same-point ∙ lt-ltb 0 (h .point) e)))
+  start-late e = refused-made s (start x) 2 (first-failed 2 _ (ap not (same-point s loads ∙ lt-ltb 0 (h .point) e)))
 
   module _ (e : h .point ≤ 0) {t : Bool} (tells : t ≡ accepted (isWorking (x .exceptions))) where
     fresh : isStarted (book .today .point) ≡ false
-    fresh = same-point ∙ le-ltb 0 (h .point) e
+    fresh = same-point s loads ∙ le-ltb 0 (h .point) e
 
     pub start-unaccepted : t ≡ false → Made c m (start x) 18 c m
     start-unaccepted d = refused-made s (start x) 17 (first-passed 3 _ (ap not fresh) ∙ first-failed 17 _ (sym tells ∙ d))
@@ -51,7 +45,7 @@ module _ {c : List ℕ} {m : List ℤ} (s : Sound c m) (x : Settings) {h : Heade
       unfolding after
       holds-started =
           let begun = startedHeader x (headerRow book) in
-          rw (← same)
+          rw (← same-header s loads)
           (subst (Holds _ _) (started-rows book x (clean (s .history) fresh) room)
           (put-exceptions (withHeaderRow (rowsOf book) begun) (header-shaped (rowsOf book) (sound-shaped s) begun)
           (put-header (rowsOf book) (sound-shaped s) (s .holds) begun) (x .exceptions) room))

@@ -1,14 +1,14 @@
 -- The numbers of a list in rising order: none is lost, none is added, and the one that is lowest from a number on follows those before it.
-use mathlib.Core.Path.{_≡_, refl, sym, ap, _∙_, subst}
-use mathlib.Core.Bool.{Bool, true, false, cond, _||_}
+use mathlib.Core.Path.{_≡_, refl, sym, ap, _∙_}
+use mathlib.Core.Bool.{Bool, true, false, cond, _||_, or-assoc, or-comm, or-self-left}
 use mathlib.Core.List.{List, [], _∷_, _++_}
 use Prim.Native.Nat.{ℕ, suc, _+_, _≤_, _<_}
 use native.Mathlib.Omega.{arith}
-use borrow.Author.Tests.{ltb-true, ltb-false, eqb-true, eq-eqb, lt-ltb, le-ltb}
+use borrow.Author.Tests.{ltb-true, ltb-false, lt-ltb, le-ltb}
 use lib.Dec.{ltb, eqb}
 use lib.ListN.{length}
 use Rattle.lists.specs.Has.{has}
-use Rattle.lists.specs.HasLaws.{byTest, clash, or-right, or-skip, those-all}
+use Rattle.lists.specs.HasLaws.{byTest, clash, has-first, has-later, has-each, those-all}
 use Rattle.lists.specs.Keep.{cond-keeps}
 use Rattle.lists.specs.Those.{those}
 use Rattle.days.specs.Days.{rising, risingAfter}
@@ -16,27 +16,8 @@ use Rattle.reports.specs.ReportLaws.{LowestIs}
 use Rattle.lines.specs.Lines.{placed, inOrder}
 
 -- ---- membership
-has-first : (n : ℕ) (ns : List ℕ) → has n (n ∷ ns) ≡ true
-unfolding has
-has-first n ns = ap (λ t. t || has n ns) (eq-eqb n n refl)
-
-has-later : (m n : ℕ) (ns : List ℕ) → has m ns ≡ true → has m (n ∷ ns) ≡ true
-unfolding has
-has-later m n ns = or-right (eqb m n) (has m ns)
-
--- what holds of the first and of those after it
-each : (P : ℕ → Type 0) (n : ℕ) (ns : List ℕ) → P n → ((m : ℕ) → has m ns ≡ true → P m) → (m : ℕ) → has m (n ∷ ns) ≡ true → P m
-unfolding has
-each P n ns p f m e = byTest (eqb m n) (λ t. subst P (sym (eqb-true m n t)) p) (λ t. f m (or-skip (eqb m n) (has m ns) t e))
-
 or-swap : (r s t : Bool) → (r || (s || t)) ≡ (s || (r || t))
-or-swap true true t = refl
-or-swap true false t = refl
-or-swap false s t = refl
-
-or-twice : (s t : Bool) → (s || t) ≡ (s || (s || t))
-or-twice true t = refl
-or-twice false t = refl
+or-swap r s t = sym (or-assoc r s t) ∙ ap (λ u. u || t) (or-comm r s) ∙ or-assoc s r t
 
 has-placed : (m n : ℕ) (ns : List ℕ) → has m (placed n ns) ≡ (eqb m n || has m ns)
 unfolding placed has
@@ -47,7 +28,7 @@ has-placed m n (k ∷ ns) =
     (λ low. cond-keeps (λ l. has m l ≡ (eqb m n || (eqb m k || has m ns))) (ltb k n) _ _
     (λ high. ap (λ t. eqb m k || t) (has-placed m n ns) ∙ or-swap (eqb m k) (eqb m n) (has m ns))
     (λ high. let same : k ≡ n = omega (arith, ltb-false n k low, ltb-false k n high) in
-    or-twice (eqb m k) (has m ns) ∙ ap (λ j. eqb m j || (eqb m k || has m ns)) same))
+    sym (or-self-left (eqb m k) (has m ns)) ∙ ap (λ j. eqb m j || (eqb m k || has m ns)) same))
 
 pub has-in-order : (m : ℕ) (keys : List ℕ) → has m (inOrder keys) ≡ has m keys
 unfolding inOrder has
@@ -81,9 +62,9 @@ unfolding placed has
 placed-rises n [] r = (λ m e. clash e refl, tt)
 placed-rises n (k ∷ ns) r =
     cond-keeps Rising (ltb n k) _ _
-    (λ low. let below : n < k = ltb-true n k low in (each (λ m. n < m) k ns below (λ m e. omega (arith, r .0 m e)), r))
+    (λ low. let below : n < k = ltb-true n k low in (has-each (λ m. n < m) k ns below (λ m e. omega (arith, r .0 m e)), r))
     (λ low. cond-keeps Rising (ltb k n) _ _
-    (λ high. (λ m e. each (λ j. k < j) n ns (ltb-true k n high) (r .0) m (sym (has-placed m n ns) ∙ e), placed-rises n ns (r .1)))
+    (λ high. (λ m e. has-each (λ j. k < j) n ns (ltb-true k n high) (r .0) m (sym (has-placed m n ns) ∙ e), placed-rises n ns (r .1)))
     (λ high. r))
 
 in-order-rises : (keys : List ℕ) → Rising (inOrder keys)
@@ -116,14 +97,14 @@ before-none from (n ∷ ns) h = rw (le-ltb n from (h n (has-first n ns))) (befor
 module _ (from k n : ℕ) (ns : List ℕ) (l : LowestIs from (n ∷ ns) k) where
   passed-over : n < from → LowestIs from ns k
   passed-over q = record {
-    there = each (λ m. from ≤ m → has m ns ≡ true) n ns (λ h. absurd (omega arith)) (λ m e h. e) k (l .there) (l .reached);
+    there = has-each (λ m. from ≤ m → has m ns ≡ true) n ns (λ h. absurd (omega arith)) (λ m e h. e) k (l .there) (l .reached);
     reached = l .reached;
     lowest = λ m e. l .lowest m (has-later m n ns e);
   }
 
   come-to : Rising (n ∷ ns) → from ≤ n → k ≡ n
   come-to r q =
-      each (λ m. m ≤ n → m ≡ n) n ns (λ h. refl) (λ m e h. absurd (omega (arith, r .0 m e))) k (l .there) (l .lowest n (has-first n ns) q)
+      has-each (λ m. m ≤ n → m ≡ n) n ns (λ h. refl) (λ m e h. absurd (omega (arith, r .0 m e))) k (l .there) (l .lowest n (has-first n ns) q)
 
 before-next : (from k : ℕ) (ns : List ℕ) → Rising ns → LowestIs from ns k → before (k + 1) ns ≡ before from ns ++ (k ∷ [])
 unfolding those has

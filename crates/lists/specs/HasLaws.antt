@@ -46,6 +46,19 @@ eqb-flip n k =
     (λ e. byTest (eqb n k) (λ d. clash (eq-eqb k n (sym (eqb-true n k d))) e) (λ d. d ∙ sym e))
 
 -- ---- membership
+pub has-first : (n : ℕ) (ns : List ℕ) → has n (n ∷ ns) ≡ true
+unfolding has
+has-first n ns = ap (λ t. t || has n ns) (eq-eqb n n refl)
+
+pub has-later : (k n : ℕ) (ns : List ℕ) → has k ns ≡ true → has k (n ∷ ns) ≡ true
+unfolding has
+has-later k n ns = or-right (eqb k n) (has k ns)
+
+-- what holds of the first and of those after it
+pub has-each : (P : ℕ → Type 0) (n : ℕ) (ns : List ℕ) → P n → ((k : ℕ) → has k ns ≡ true → P k) → (k : ℕ) → has k (n ∷ ns) ≡ true → P k
+unfolding has
+has-each P n ns p f k e = byTest (eqb k n) (λ t. subst P (sym (eqb-true k n t)) p) (λ t. f k (or-skip (eqb k n) (has k ns) t e))
+
 pub has-append : (k : ℕ) (ns ms : List ℕ) → has k (ns ++ ms) ≡ (has k ns || has k ms)
 unfolding has
 has-append k [] ms = refl
@@ -87,10 +100,9 @@ those-lacks p k ns h e = sym (when-true (has k ns) false e) ∙ sym (has-those p
 
 -- all pass
 pub those-all : (p : ℕ → Bool) (ns : List ℕ) → ((k : ℕ) → has k ns ≡ true → p k ≡ true) → those p ns ≡ ns
-unfolding has those
+unfolding those
 those-all p [] h = refl
-those-all p (n ∷ ns) h =
-    rw (h n (ap (λ t. t || has n ns) (eq-eqb n n refl)), those-all p ns (λ k e. h k (or-right (eqb k n) (has k ns) e)))
+those-all p (n ∷ ns) h = rw (h n (has-first n ns), those-all p ns (λ k e. h k (has-later k n ns e)))
 
 -- ---- no number twice
 abbrev pub Distinct : List ℕ → Type 0

@@ -5,16 +5,13 @@ use mathlib.Core.List.{List, [], _∷_}
 use Prim.Native.Nat.{ℕ, _≤_}
 use lib.Dec.{eqb}
 use lib.IntN.{ℤ}
-use lib.ListN.{take}
-use Rattle.lists.specs.Parts.{part}
-use Rattle.lists.specs.PaddedLaws.{take-padded}
-use Rattle.days.specs.Days.{rising, isWorking}
+use Rattle.days.specs.Days.{isWorking}
 use Rattle.calendar.specs.declared.listing.Listing.{Listing}
 use Rattle.calendar.specs.Listing.{listing}
 use Rattle.memory.specs.declared.header_row.Header.{Header}
 use Rattle.memory.specs.Layout.{headerAt, withHeader}
 use Rattle.memory.specs.Memory.{Rows, Holds, withHeaderRow}
-use Rattle.memory.specs.MemoryLaws.{exceptions-part, put-header}
+use Rattle.memory.specs.MemoryLaws.{put-header}
 use Rattle.model.specs.Book.{Book, working}
 use Rattle.model.specs.Calls.{Opening, opening}
 use Rattle.model.specs.Effects.{opened, after}
@@ -24,7 +21,7 @@ use Rattle.standing.specs.Standing.{rowsOf}
 use Rattle.standing.specs.Made.{Sound, decided, Made}
 use Rattle.standing.specs.Good.{good}
 use Rattle.standing.specs.StandingLaws.{made, refused-made}
-use Rattle.standing.specs.SoundLaws.{sound-shaped, sound-header}
+use Rattle.standing.specs.SoundLaws.{exceptionsOf, sound-whole, sound-header, exceptions-are}
 use Rattle.standing.specs.Turns.{Turns}
 use Rattle.standing.specs.OpenRows.{relistedRows, openHeader}
 use Rattle.standing.specs.OpenRowLaws.{open-rows}
@@ -39,10 +36,7 @@ tests-are true true false v = refl
 tests-are true true true false = refl
 tests-are true true true true = refl
 
--- ---- what the code sees of the memory: the exceptions in use, whether the book is shut, and whether a day may open
-abbrev pub exceptionsOf : List ℕ → List ℕ
-exceptionsOf counts = part 10 (headerAt counts .exceptions) counts
-
+-- ---- what the code sees of the memory: whether the book is shut, and whether a day may open
 abbrev pub shutAt : List ℕ → Bool
 shutAt counts = eqb (headerAt counts .point) 1 || eqb (headerAt counts .point) 4
 
@@ -53,20 +47,8 @@ module _ {counts : List ℕ} {money : List ℤ} (s : Sound counts money) where
   abbrev book : Book
   book = run (s .history)
 
-  pub few-exceptions : headerAt counts .exceptions ≤ 400
-  few-exceptions = subst (λ (x : Header). x .exceptions ≤ 400) (sym (sound-header s)) (good (s .history) .room)
-
   pub last-day : headerAt counts .day ≤ 3652
   last-day = subst (λ (x : Header). x .day ≤ 3652) (sym (sound-header s)) (good (s .history) .sized .today .day)
-
-  exceptions-are : exceptionsOf counts ≡ book .settings .exceptions
-  exceptions-are =
-      exceptions-part (rowsOf book) (sound-shaped s) (s .holds) (headerAt counts .exceptions) few-exceptions
-      ∙ ap (λ (x : Header). take (x .exceptions) (rowsOf book .exceptions)) (sound-header s)
-      ∙ take-padded 400 0 (book .settings .exceptions)
-
-  pub exceptions-rise : rising (exceptionsOf counts) ≡ true
-  exceptions-rise = ap rising exceptions-are ∙ good (s .history) .rising
 
   -- ---- what the tests decide
   module _ (o : Opening) where
@@ -77,7 +59,7 @@ module _ {counts : List ℕ} {money : List ℤ} (s : Sound counts money) where
     decides =
         tests-are (isShut (book .today .point)) (working book (o .day)) (isNext book (o .day)) (listing (working book) (o .day) .known)
         ∙ sym (ap₂ (λ (e : List ℕ) (x : Header). cond (eqb (x .point) 1 || eqb (x .point) 4)
-        (cond (opensOn e x (o .day)) (cond (listing (isWorking e) (o .day) .known) 0 4) 4) 3) exceptions-are (sound-header s))
+        (cond (opensOn e x (o .day)) (cond (listing (isWorking e) (o .day) .known) 0 4) 4) 3) (exceptions-are s) (sound-header s))
 
     pub made-shut : shutAt counts ≡ false → Made counts money (opening o) 3 counts money
     made-shut e = refused-made s (opening o) 2 (decides ∙ rw e)
@@ -95,10 +77,10 @@ module _ {counts : List ℕ} {money : List ℤ} (s : Sound counts money) where
             (p : Turns counts money counts′ money′ (relistedRows (listingAt .codes) (o .rates) (o .margins))) where
           left : Holds (withHeader counts′ (openHeader (o .day) (headerAt counts))) money′ (rowsOf (opened book o))
           left =
-              let is = ap (λ e. listing (isWorking e) (o .day)) exceptions-are in
+              let is = ap (λ e. listing (isWorking e) (o .day)) (exceptions-are s) in
               let rows : Listing → Rows = λ l. relistedRows (l .codes) (o .rates) (o .margins) (rowsOf book) in
               let h = openHeader (o .day) (headerAt counts) in
-              let a = p (rowsOf book) (record { shaped = sound-shaped s; holds = s .holds }) in
+              let a = p (rowsOf book) (sound-whole s) in
               subst (Holds (withHeader counts′ h) money′)
               (ap₂ (λ (l : Listing) (x : Header). withHeaderRow (rows l) (openHeader (o .day) x)) is (sound-header s)
               ∙ open-rows (good (s .history)) o (sym (ap (λ (l : Listing). l .known) is) ∙ known))

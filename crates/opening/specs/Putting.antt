@@ -6,12 +6,10 @@ use native.Mathlib.Omega.{arith}
 use lib.IntN.{ℤ}
 use lib.ListN.{length, getD}
 use Rattle.lists.specs.Parts.{onto, onto-step, onto-all}
-use Rattle.accounts.specs.declared.Account.{Account}
 use Rattle.memory.specs.declared.contract_rows.Contract.{Contract}
-use Rattle.memory.specs.Layout.{Long, accountAt, withContractCounts, withContractMoney, withAccountCounts, withAccountMoney}
+use Rattle.memory.specs.Layout.{Long, withContractCounts, withContractMoney}
 use Rattle.memory.specs.Memory.{WholeTally, withContracts}
 use Rattle.memory.specs.MemoryLaws.{put-contract, contract-shaped}
-use Rattle.standing.specs.WalkLaws.{walked, KeepsSix, walked-shaped, walk-step}
 use Rattle.standing.specs.Turns.{Turns}
 
 -- memory as long as it was
@@ -51,15 +49,3 @@ module _ (c₀ : List ℕ) (m₀ : List ℤ) (rows : List Contract) where
     putting-all q r w =
         let e : j ≡ 6 = omega arith in
         rw (ap (onto rows (r .contracts)) e ∙ onto-all rows (r .contracts) 6 (k .six) (w .shaped .contracts)) at (p .turns r w)
-
--- ---- the first i accounts changed
-module _ (c₀ : List ℕ) (m₀ : List ℤ) (f : Account → Account) where
-  pub walks-none : Turns c₀ m₀ c₀ m₀ (λ r. walked r f 0)
-  walks-none r w = w
-
-  pub walks-more : {c c′ : List ℕ} {m m′ : List ℤ} (i : ℕ) {a : Account} → KeepsSix f → Turns c₀ m₀ c m (λ r. walked r f i) → i < 64
-      → a ≡ f (accountAt c m i) → c′ ≡ withAccountCounts c i a → m′ ≡ withAccountMoney m i a → Turns c₀ m₀ c′ m′ (λ r. walked r f (i + 1))
-  walks-more i six p q e g h r w = record {
-    shaped = walked-shaped r (w .shaped) f six (i + 1);
-    holds = walk-step r (w .shaped) f six i (p r w .holds) q e g h;
-  }

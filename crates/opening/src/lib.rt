@@ -1,6 +1,5 @@
 // The open of a day: the day is tested, and its codes are listed in the place of those listed so far (document 01, 'The day').
 ghost use mathlib.Core.Path.{_≡_};
-ghost use Prim.Native.Nat.{_≤_};
 ghost use Rattle.model.specs.Calls.{opening as openingCall};
 ghost use Rattle.standing.specs.Made.{Sound, Made};
 ghost use Rattle.standing.specs.OpenRows.{openHeader};
@@ -44,7 +43,7 @@ pub fn open_day(
     rates: [i64; 6],
     margins: [u64; 6],
 ) -> u64
-    requires { ⌜ Sound (now counts) (now money) × (day ≤ 3652) ⌝ }
+    requires { ⌜ Sound (now counts) (now money) ⌝ }
     ensures { λ r. ⌜ Made (now (counts .entry)) (now (money .entry)) (openingCall (record { day = day; rates = rates; margins = margins })) r (now (counts .exit)) (now (money .exit)) ⌝ }
 {
     let h = load_header(&counts[..]);

@@ -24,6 +24,10 @@ pub data Prints : Book → ℕ → List ℕ → List ℕ → Type 0 where
       → Prints (called b e) (place + (length bytes - length rest)) rest text
       → Prints b place bytes (answerText (e .kind) (answer b e) ++ text)
 
+-- on a book b, bytes at a place print a text and then what the rest prints on b′, whatever the file goes on with
+abbrev pub PrintsFirst : Book → ℕ → List ℕ → List ℕ → Book → ℕ → List ℕ → Type 0
+PrintsFirst b place s text b′ next rest = (more left : List ℕ) → Prints b′ next (rest ++ more) left → Prints b place (s ++ more) (text ++ left)
+
 -- ---- one record
 -- a record that is read is called and answered in its text; one that is not is `bad`, and the book stays as it was
 abbrev pub PrintedBy : Parsed → List ℕ → ℕ → List ℕ → List ℤ → List ℕ → ℕ → Printed → List ℕ → List ℤ → List ℕ → Type 0

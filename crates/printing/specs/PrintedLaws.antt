@@ -16,7 +16,7 @@ use Rattle.decimal.specs.Put.{Put}
 use Rattle.lines.specs.Lines.{answerText, badText}
 use Rattle.printing.specs.declared.one_record.Printed.{Printed}
 use Rattle.printing.specs.declared.one_record.Printed.the-variants.{Next, Bad}
-use Rattle.printing.specs.Printed.{Prints, ended, spoilt, answered, PrintedBy, PrintedAt}
+use Rattle.printing.specs.Printed.{Prints, PrintsFirst, ended, spoilt, answered, PrintedBy, PrintedAt}
 use Rattle.printing.specs.WindowLaws.{never-read, read-on, unread-on, record-ends}
 
 -- ---- a file has one printed day
@@ -61,10 +61,6 @@ pub prints-some : (b : Book) (place : ℕ) (s : List ℕ) → Small s → (text 
 prints-some b place s small = prints-within (suc (length s)) b place s (omega arith) small
 
 -- ---- a record printed from a part of a file
--- on a book b, bytes at a place print a text and then what the rest prints on b′, whatever the file goes on with
-abbrev pub PrintsFirst : Book → ℕ → List ℕ → List ℕ → Book → ℕ → List ℕ → Type 0
-PrintsFirst b place s text b′ next rest = (more left : List ℕ) → Prints b′ next (rest ++ more) left → Prints b place (s ++ more) (text ++ left)
-
 -- a record that was read: what is left stands at the place after it
 prints-first : (bytes : List ℕ) (at place : ℕ) (b : Book) {e : Entry} {rest : List ℕ} → Small bytes → reading (drop at bytes) ≡ parsed e rest
     → let next = length bytes - length rest in

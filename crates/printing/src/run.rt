@@ -1,11 +1,12 @@
 // A file printed: it is taken in blocks, and its text is gathered and written whenever the room for it is nearly full. No contract can say
-// what is read and written; what a record puts into the room is `print_record`'s to promise.
-ghost use Prim.Native.Nat.{_+_, _≤_, _<_};
+// what is read and written. What a turn puts into the room, whatever it read, is `take_turn`'s to promise; `Runs` puts turns together.
+ghost use Prim.Native.Nat.{_+_, _-_, _≤_, _<_};
 ghost use mathlib.Core.Path.{_≡_};
-ghost use mathlib.Core.Bool.{true, false};
-ghost use lib.ListN.{length};
+ghost use mathlib.Core.Bool.{true};
+ghost use lib.ListN.{length, take, drop};
 ghost use Rattle.standing.specs.Made.{Sound};
-ghost use Rattle.printing.specs.Turns.{Within, GoesOn, Nearer};
+ghost use Rattle.printing.specs.Turns.{Within, GoesOn, Nearer, Reaches, Printable};
+ghost use Rattle.printing.specs.Blocks.{Enough, Follows, PrintedUpTo, Refilled, TurnedTo, TurnTaken, start};
 use crate::one_record::Printed;
 use crate::one_record::print_record;
 use book::new_book;
@@ -20,6 +21,10 @@ const LONGEST: usize = 4140;
 
 // Text up to here leaves room for the longest answer.
 const NEARLY_FULL: usize = 57136;
+
+// A turn that does not end the run takes at least a byte of the file, so that these, 2^47, are enough for any file: one of 128 TiB. Each takes
+// at most a block, so that every place is at most 2^63.
+const TURNS: u64 = 140737488355328;
 
 // The bytes of a block from `from` up to `to` are read and not yet printed. The first of them is at `place` in the file. `ended`: the file
 // has no more.
@@ -47,7 +52,7 @@ enum Turn {
 // Moves what is left to the front of the block, and answers how much that is.
 fn move_down(block: &mut [u8], from: usize, to: usize) -> usize
     requires { ⌜ (from ≤ to) × (to ≤ length (now block)) ⌝ }
-    ensures { λ r. ⌜ from + r ≡ to ⌝ }
+    ensures { λ r. ⌜ (from + r ≡ to) × (take r (now (block .exit)) ≡ take r (drop from (now (block .entry)))) ⌝ }
 {
     let mut moved: usize = 0;
     while from + moved < to {
@@ -60,7 +65,7 @@ fn move_down(block: &mut [u8], from: usize, to: usize) -> usize
 // Reads on behind what is left, unless that has a whole record for certain. A block that is not filled has the file's end.
 fn refill(input: i32, block: &mut [u8], w: Window) -> Window
     requires { ⌜ Within (length (now block)) w ⌝ }
-    ensures { λ r. ⌜ Within (length (now (block .entry))) r ⌝ }
+    ensures { λ r. ⌜ Refilled w (now (block .entry)) r (now (block .exit)) ⌝ }
 {
     if w.ended {
         return w;
@@ -83,7 +88,7 @@ fn refill(input: i32, block: &mut [u8], w: Window) -> Window
 // has no more.
 fn is_next(p: Progress, end: usize, ended: bool) -> bool
     requires { ⌜ p .at ≤ end ⌝ }
-    ensures { λ r. ⌜ (r ≡ true → (p .bad ≡ false) × ((p .at < end) × (p .used ≤ 57136))) ⌝ }
+    ensures { λ r. ⌜ (r ≡ true → Printable end ended p) ⌝ }
 {
     if p.bad {
         return false;
@@ -106,8 +111,12 @@ fn print_next(
     room: &mut [u8],
     p: Progress,
 ) -> Progress
-    requires { ⌜ Sound (now counts) (now money) × ((p .at < length (now bytes)) × (p .used + 8400 ≤ length (now room))) ⌝ }
-    ensures { λ r. ⌜ Sound (now (counts .exit)) (now (money .exit)) × Nearer (length (now (bytes .entry))) p r ⌝ }
+    requires { ⌜ Sound (now counts) (now money) ⌝ }
+    requires { ⌜ (p .at < length (now bytes)) × (p .used + 8400 ≤ length (now room)) ⌝ }
+    requires { ⌜ p .place + (length (now bytes) - p .at) ≤ 18446744073709551615 ⌝ }
+    ensures { λ r. ⌜ Sound (now (counts .exit)) (now (money .exit)) ⌝ }
+    ensures { λ r. ⌜ Nearer (length (now (bytes .entry))) p r ⌝ }
+    ensures { λ r. ⌜ PrintedUpTo (Enough (drop (p .at) (now (bytes .entry)))) (now (bytes .entry)) p (now (counts .entry)) (now (money .entry)) (now (room .entry)) r (now (counts .exit)) (now (money .exit)) (now (room .exit)) ⌝ }
 {
     let at = p.at;
     let printed = print_record(counts, money, bytes, at, p.place, room, p.used);
@@ -119,7 +128,7 @@ fn print_next(
             bad: true,
         },
         Printed::Next(next, after) => {
-            let place = std::num::wrapping_add_u64(p.place, (next - at) as u64);
+            let place = p.place + (next - at) as u64;
             Progress {
                 at: next,
                 place,
@@ -138,8 +147,12 @@ fn print_block(
     room: &mut [u8],
     w: Window,
 ) -> Progress
-    requires { ⌜ Sound (now counts) (now money) × ((w .from ≤ length (now bytes)) × (65536 ≤ length (now room))) ⌝ }
-    ensures { λ r. ⌜ Sound (now (counts .exit)) (now (money .exit)) × ((r .at ≤ length (now (bytes .entry))) × (r .used ≤ 65536)) ⌝ }
+    requires { ⌜ Sound (now counts) (now money) ⌝ }
+    requires { ⌜ (w .from ≤ length (now bytes)) × (65536 ≤ length (now room)) ⌝ }
+    requires { ⌜ w .place + (length (now bytes) - w .from) ≤ 18446744073709551615 ⌝ }
+    ensures { λ r. ⌜ Sound (now (counts .exit)) (now (money .exit)) ⌝ }
+    ensures { λ r. ⌜ Reaches (length (now (bytes .entry))) (start w) r ⌝ }
+    ensures { λ r. ⌜ PrintedUpTo (Follows (w .ended)) (now (bytes .entry)) (start w) (now (counts .entry)) (now (money .entry)) (now (room .entry)) r (now (counts .exit)) (now (money .exit)) (now (room .exit)) ⌝ }
 {
     let mut p = Progress {
         at: w.from,
@@ -155,8 +168,7 @@ fn print_block(
 
 // Whether a file is done: it ended at a bad record, or all of it is printed.
 fn turned(p: Progress, w: Window) -> Turn
-    requires { ⌜ p .at ≤ w .to ⌝ }
-    ensures { λ r. ⌜ GoesOn (w .to) r ⌝ }
+    ensures { λ r. ⌜ TurnedTo p w r ⌝ }
 {
     if p.bad {
         return Turn::Ended(true);
@@ -184,8 +196,12 @@ fn take_turn(
     room: &mut [u8],
     before: Window,
 ) -> Turn
-    requires { ⌜ Sound (now counts) (now money) × (Within (length (now block)) before × (65536 ≤ length (now room))) ⌝ }
-    ensures { λ r. ⌜ Sound (now (counts .exit)) (now (money .exit)) × GoesOn (length (now (block .entry))) r ⌝ }
+    requires { ⌜ Sound (now counts) (now money) ⌝ }
+    requires { ⌜ Within (length (now block)) before × ((length (now block) ≤ 65536) × (65536 ≤ length (now room))) ⌝ }
+    requires { ⌜ before .place + 65536 ≤ 18446744073709551615 ⌝ }
+    ensures { λ r. ⌜ Sound (now (counts .exit)) (now (money .exit)) ⌝ }
+    ensures { λ r. ⌜ GoesOn (length (now (block .entry))) (before .place) r ⌝ }
+    ensures { λ r. ⌜ TurnTaken (now (counts .entry)) (now (money .entry)) before (now (block .entry)) r (now (counts .exit)) (now (money .exit)) (now (block .exit)) (now (room .exit)) ⌝ }
 {
     let w = refill(input, &mut *block, before);
     let to = w.to;
@@ -197,8 +213,7 @@ fn take_turn(
     turned(p, w)
 }
 
-// Takes turns until the file is done or a write fails, and answers whether all was written. A turn that does not end the run takes at least
-// a byte of the file, so that the turns are enough for any file.
+// Takes turns until the file is done or a write fails, and answers whether all was written.
 fn take_turns(
     counts: &mut [u64; COUNTS],
     money: &mut [i64; MONEY],
@@ -207,7 +222,7 @@ fn take_turns(
     block: &mut [u8],
     room: &mut [u8],
 ) -> bool
-    requires { ⌜ Sound (now counts) (now money) × (65536 ≤ length (now room)) ⌝ }
+    requires { ⌜ Sound (now counts) (now money) × ((length (now block) ≤ 65536) × (65536 ≤ length (now room))) ⌝ }
 {
     let mut w = Window {
         from: 0,
@@ -215,7 +230,7 @@ fn take_turns(
         place: 0,
         ended: false,
     };
-    let mut turns = u64::MAX;
+    let mut turns = TURNS;
     while 0 < turns {
         let turn = take_turn(counts, money, input, output, &mut *block, &mut *room, w);
         match turn {

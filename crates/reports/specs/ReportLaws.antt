@@ -1,15 +1,15 @@
 -- What the lowest number of a list that is not below another is, and how it is found place by place.
-use mathlib.Core.Path.{_≡_, refl, sym, ap, _∙_, subst}
-use mathlib.Core.Bool.{true, _||_}
+use mathlib.Core.Path.{_≡_, refl, ap, _∙_}
+use mathlib.Core.Bool.{true}
 use mathlib.Core.List.{List, [], _∷_}
 use Prim.Native.Nat.{ℕ, suc, _≤_, _<_}
 use native.Mathlib.Omega.{arith}
-use borrow.Author.Tests.{ltb-true, ltb-false, eqb-true, eq-eqb}
-use lib.Dec.{ltb, eqb}
+use borrow.Author.Tests.{ltb-true, ltb-false}
+use lib.Dec.{ltb}
 use lib.ListN.{drop, drop-of-length-le}
 use lib.Seq.{drop-cons}
 use Rattle.lists.specs.Has.{has}
-use Rattle.lists.specs.HasLaws.{byTest, or-right, or-skip, clash}
+use Rattle.lists.specs.HasLaws.{clash, has-first, has-later, has-each}
 use Rattle.lists.specs.Keep.{cond-keeps}
 use Rattle.lists.specs.Tabulate.{tab, tab-length, tab-at}
 use Rattle.reports.specs.declared.Lowest.{Lowest}
@@ -27,29 +27,20 @@ Pinned from ns (Is k) = LowestIs from ns k
 Pinned from ns None = (n : ℕ) → has n ns ≡ true → n < from
 
 module _ (from n : ℕ) (ns : List ℕ) where
-  -- ---- the first number and those after it
-  first : has n (n ∷ ns) ≡ true
-  unfolding has
-  first = ap (λ t. t || has n ns) (eq-eqb n n refl)
-
-  later : (k : ℕ) → has k ns ≡ true → has k (n ∷ ns) ≡ true
-  unfolding has
-  later k = or-right (eqb k n) (has k ns)
-
-  each : (P : ℕ → Type 0) → P n → ((k : ℕ) → has k ns ≡ true → P k) → (k : ℕ) → has k (n ∷ ns) ≡ true → P k
-  unfolding has
-  each P p f k e = byTest (eqb k n) (λ t. subst P (sym (eqb-true k n t)) p) (λ t. f k (or-skip (eqb k n) (has k ns) t e))
-
-  -- ---- the lowest of both
+  -- ---- the lowest of the first number and those after it
   first-lowest : from ≤ n → ((k : ℕ) → has k ns ≡ true → from ≤ k → n ≤ k) → LowestIs from (n ∷ ns) n
-  first-lowest q f = record { there = first; reached = q; lowest = each (λ k. from ≤ k → n ≤ k) (λ r. omega arith) f }
+  first-lowest q f = record { there = has-first n ns; reached = q; lowest = has-each (λ k. from ≤ k → n ≤ k) n ns (λ r. omega arith) f }
 
   later-lowest : (k : ℕ) → LowestIs from ns k → (from ≤ n → k ≤ n) → LowestIs from (n ∷ ns) k
-  later-lowest k h f = record { there = later k (h .there); reached = h .reached; lowest = each (λ j. from ≤ j → k ≤ j) f (h .lowest) }
+  later-lowest k h f = record {
+    there = has-later k n ns (h .there);
+    reached = h .reached;
+    lowest = has-each (λ j. from ≤ j → k ≤ j) n ns f (h .lowest);
+  }
 
   pinned-next : (found : Lowest) → Pinned from ns found → Pinned from (n ∷ ns) (lowerFrom from n found)
   pinned-next None h = cond-keeps (Pinned from (n ∷ ns)) (ltb n from) None (Is n)
-      (λ e. each (λ k. k < from) (ltb-true n from e) h)
+      (λ e. has-each (λ k. k < from) n ns (ltb-true n from e) h)
       (λ e. first-lowest (ltb-false n from e) (λ k t q. omega (arith, h k t)))
   pinned-next (Is k) h = cond-keeps (Pinned from (n ∷ ns)) (ltb n from) (Is k) _
       (λ e. later-lowest k h (λ q. omega (arith, ltb-true n from e)))

@@ -1,23 +1,43 @@
 -- What a call knows of the memory that it is given, and a refusal found test by test.
-use mathlib.Core.Path.{_≡_, refl, sym, subst}
+use mathlib.Core.Path.{_≡_, refl, sym, ap, _∙_, subst}
 use mathlib.Core.Bool.{Bool, true, false}
 use mathlib.Core.List.{List, [], _∷_}
 use Prim.Native.Nat.{ℕ, suc, _≤_}
 use lib.IntN.{ℤ}
+use lib.ListN.{take}
+use Rattle.lists.specs.Parts.{part}
+use Rattle.lists.specs.PaddedLaws.{take-padded}
+use Rattle.days.specs.Days.{rising}
 use Rattle.memory.specs.declared.header_row.Header.{Header}
 use Rattle.memory.specs.Layout.{Long, headerAt, withHeader}
-use Rattle.memory.specs.Memory.{Shaped, withHeaderRow}
-use Rattle.memory.specs.MemoryLaws.{header-is, memory-long, put-header, header-shaped}
+use Rattle.memory.specs.Memory.{Rows, Shaped, withHeaderRow}
+use Rattle.memory.specs.MemoryLaws.{header-is, exceptions-part, memory-long, put-header, header-shaped}
 use Rattle.model.specs.Refusals.{needs, firstOf}
 use Rattle.model.specs.History.{run}
 use Rattle.standing.specs.Standing.{headerRow, rowsOf}
 use Rattle.standing.specs.Made.{Sound}
 use Rattle.standing.specs.Good.{good}
 use Rattle.standing.specs.StandingLaws.{rows-shaped}
+use Rattle.standing.specs.Turns.{Whole}
+use Rattle.standing.specs.CloseRows.{exceptionsIn}
 
+-- ---- the exceptions in use, where a call reads them
+abbrev pub exceptionsOf : List ℕ → List ℕ
+exceptionsOf c = part 10 (headerAt c .exceptions) c
+
+pub exceptions-read : {c : List ℕ} {m : List ℤ} (r : Rows) → Whole c m r → {h : Header} → h ≡ headerAt c → h .exceptions ≤ 400
+    → part 10 (h .exceptions) c ≡ exceptionsIn r
+exceptions-read r w {h} e few =
+    exceptions-part r (w .shaped) (w .holds) (h .exceptions) few
+    ∙ ap (λ (x : Header). take (x .exceptions) (r .exceptions)) (e ∙ header-is r (w .shaped) (w .holds))
+
+-- ---- a sound memory
 module _ {c : List ℕ} {m : List ℤ} (s : Sound c m) where
   pub sound-shaped : Shaped (rowsOf (run (s .history)))
   sound-shaped = rows-shaped (good (s .history))
+
+  pub sound-whole : Whole c m (rowsOf (run (s .history)))
+  sound-whole = record { shaped = sound-shaped; holds = s .holds }
 
   pub sound-long : Long c m
   sound-long = memory-long (rowsOf (run (s .history))) sound-shaped (s .holds)
@@ -37,6 +57,18 @@ module _ {c : List ℕ} {m : List ℤ} (s : Sound c m) where
 
   pub sound-listed : headerAt c .listed ≤ 6
   sound-listed = subst (λ (h : Header). h .listed ≤ 6) (sym sound-header) (good (s .history) .few)
+
+  pub sound-exceptions : headerAt c .exceptions ≤ 400
+  sound-exceptions = subst (λ (h : Header). h .exceptions ≤ 400) (sym sound-header) (good (s .history) .room)
+
+  -- the exceptions in use are the book's
+  pub exceptions-are : exceptionsOf c ≡ run (s .history) .settings .exceptions
+  exceptions-are =
+      exceptions-read (rowsOf (run (s .history))) sound-whole refl sound-exceptions
+      ∙ take-padded 400 0 (run (s .history) .settings .exceptions)
+
+  pub exceptions-rise : rising (exceptionsOf c) ≡ true
+  exceptions-rise = ap rising exceptions-are ∙ good (s .history) .rising
 
 -- ---- a test that is passed, one that is not, and none left
 pub first-passed : {t : Bool} (number : ℕ) (rest : List ℕ) → t ≡ true → firstOf (needs t number ∷ rest) ≡ firstOf rest

@@ -19,6 +19,7 @@ use Rattle.standing.specs.Made.{Sound}
 use Rattle.standing.specs.Good.{Good, good}
 use Rattle.standing.specs.StandingLaws.{rows-shaped, view-is}
 use Rattle.standing.specs.MemberLaws.{member-row}
+use Rattle.standing.specs.Turns.{Turns}
 
 -- ---- the book that a memory stands for, which a walk's contract speaks of
 module _ {counts : List ℕ} {money : List ℤ} (s : Sound counts money) where
@@ -74,6 +75,18 @@ module _ (r : Rows) (s : Shaped r) (f : Account → Account) (six : KeepsSix f) 
       walk-step e p t =
           rw (p, t, e ∙ ap f walk-row, ← firstRows-step f (r .accounts) i blankAccount (rw (s .accounts) q))
           (put-account (walked r f i) (walked-shaped i) h i q (f (getD (r .accounts) i blankAccount)))
+
+-- ---- whatever rows a memory holds, the first i accounts changed
+module _ (c₀ : List ℕ) (m₀ : List ℤ) (f : Account → Account) where
+  pub walks-none : Turns c₀ m₀ c₀ m₀ (λ r. walked r f 0)
+  walks-none r w = w
+
+  pub walks-more : {c c′ : List ℕ} {m m′ : List ℤ} (i : ℕ) {a : Account} → KeepsSix f → Turns c₀ m₀ c m (λ r. walked r f i) → i < 64
+      → a ≡ f (accountAt c m i) → c′ ≡ withAccountCounts c i a → m′ ≡ withAccountMoney m i a → Turns c₀ m₀ c′ m′ (λ r. walked r f (i + 1))
+  walks-more i six p q e g h r w = record {
+    shaped = walked-shaped r (w .shaped) f six (i + 1);
+    holds = walk-step r (w .shaped) f six i (p r w .holds) q e g h;
+  }
 
 -- ---- the members of a book
 module _ {b : Book} (g : Good b) (f : Account → Account) where

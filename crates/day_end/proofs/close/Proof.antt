@@ -16,17 +16,14 @@ use Rattle.model.specs.EndLaws.{calendar-accepted}
 use Rattle.standing.specs.Standing.{rowsOf}
 use Rattle.standing.specs.Good.{good}
 use Rattle.standing.specs.StandingLaws.{made, refused-made}
-use Rattle.standing.specs.SoundLaws.{sound-shaped, sound-long, sound-header, first-passed, first-failed, none-left}
+use Rattle.standing.specs.SoundLaws.{sound-whole, sound-long, sound-header, first-passed, first-failed, none-left}
 use Rattle.standing.specs.CloseRows.{closedRows}
 use Rattle.standing.specs.CloseRowLaws.{close-rows}
-use Rattle.standing.specs.Turns.{Whole, Has}
+use Rattle.standing.specs.Turns.{Has}
 use Rattle.day_end.specs.Closable.{Closable}
 use Rattle.day_end.specs.ClosableLaws.{rows-closable}
 use Rattle.day_end.proofs.close.Statement.{statement}
 use Rattle.day_end.proofs.close.Tie as tie
-
-whole : (s : tie.Start) → Whole (s .args .counts .now) (s .args .money .now) (rowsOf (run (s .pre .0 .history)))
-whole s = record { shaped = sound-shaped (s .pre .0); holds = s .pre .0 .holds }
 
 -- the point that is read is the book's
 point : (c : tie.After-load-header) → c .load-header .result .point ≡ stage (run (c .before .before .before .pre .0 .history) .today .point)
@@ -59,7 +56,7 @@ close-rows-requires c κs =
     let h = s .pre .0 .history in
     subst (λ z. Has (Closable z) (s .args .counts .now) (s .args .money .now)) (sym (back (s .fits .final-rate))) (record {
       rows = rowsOf (run h);
-      whole = whole s;
+      whole = sound-whole (s .pre .0);
       known = rows-closable (good h) (calendar-accepted h) (is-open left) (s .args .final-rate) (s .pre .1);
     })
 
@@ -77,7 +74,7 @@ returns-2 c =
     let s = left .before .before .before .before .before in
     let h = s .pre .0 .history in
     let rows = subst (λ z. Holds (done .close-rows .last .0) (done .close-rows .last .1 .0) (closedRows z (rowsOf (run h))))
-    (back (s .fits .final-rate)) (done .close-rows .ensures (rowsOf (run h)) (whole s) .holds) in
+    (back (s .fits .final-rate)) (done .close-rows .ensures (rowsOf (run h)) (sound-whole (s .pre .0)) .holds) in
     made (s .pre .0) (close (s .args .final-rate)) 0
     (sym (first-passed 3 [] (settled left) ∙ none-left))
     (subst (Holds (done .close-rows .last .0) (done .close-rows .last .1 .0))

@@ -10,15 +10,15 @@ use Rattle.days.specs.Days.{rising, isWorking}
 use Rattle.calendar.specs.declared.listing.Listing.{Listing}
 use Rattle.calendar.specs.Listing.{listing}
 use Rattle.memory.specs.declared.header_row.Header.{Header}
-use Rattle.standing.specs.SoundLaws.{sound-long, sound-members, sound-listed}
+use Rattle.standing.specs.SoundLaws.{exceptionsOf, sound-long, sound-members, sound-listed, sound-exceptions, exceptions-rise}
 use Rattle.opening.specs.Opens.{opensOn}
-use Rattle.opening.specs.OpenLaws.{exceptionsOf, shutAt, opensAt, few-exceptions, last-day, exceptions-rise, made-shut, made-off, made-unknown, made-open}
+use Rattle.opening.specs.OpenLaws.{shutAt, opensAt, last-day, made-shut, made-off, made-unknown, made-open}
 use Rattle.opening.proofs.open_day.Statement.{statement}
 use Rattle.opening.proofs.open_day.Tie as tie
 
 -- what the tests see of the memory
 few : (c : tie.After-load-header) → c .load-header .result .exceptions ≤ 400
-few c = rw (c .load-header .ensures) (few-exceptions (c .before .before .before .pre .0))
+few c = rw (c .load-header .ensures) (sound-exceptions (c .before .before .before .pre))
 
 lent : (c : tie.After-load-header) → let counts = c .before .before .before .args .counts .now in
     part 10 (10 + c .load-header .result .exceptions - 10) counts ≡ exceptionsOf counts
@@ -28,7 +28,7 @@ lent c =
 
 rises : (c : tie.After-load-header) →
     rising (part 10 (10 + c .load-header .result .exceptions - 10) (c .before .before .before .args .counts .now)) ≡ true
-rises c = ap rising (lent c) ∙ exceptions-rise (c .before .before .before .pre .0)
+rises c = ap rising (lent c) ∙ exceptions-rise (c .before .before .before .pre)
 
 shut-is : (c : tie.After-is-shut) → c .is-shut .result ≡ shutAt (c .before .before .before .before .args .counts .now)
 shut-is c = c .is-shut .ensures ∙ ap (λ (x : Header). eqb (x .point) 1 || eqb (x .point) 4) (c .before .load-header .ensures)
@@ -54,7 +54,7 @@ opens : (c : tie.Else2) → let s = c .before .before .before .before .before .b
 opens c = sym (opens-is (c .before)) ∙ not-false _ (c .if2 .left)
 
 load-header-requires : tie.Need-load-header-requires
-load-header-requires c κs = sound-long (c .before .before .pre .0) .counts
+load-header-requires c κs = sound-long (c .before .before .pre) .counts
 
 is-shut-requires : tie.Need-is-shut-requires
 is-shut-requires c κs = search needs
@@ -65,7 +65,7 @@ same-length c = search needs
 returns : tie.Need-returns
 returns c =
     let s = c .before .before .before .before .before in
-    made-shut (s .pre .0) _ (sym (shut-is (c .before)) ∙ not-true _ (c .if1 .taken))
+    made-shut (s .pre) _ (sym (shut-is (c .before)) ∙ not-true _ (c .if1 .taken))
 
 add-opens-on : tie.Need-add-opens-on
 add-opens-on c = omega (arith, few (c .before .before))
@@ -79,12 +79,12 @@ part-opens-on-start c = search needs
 part-opens-on-end : tie.Need-part-opens-on-end
 part-opens-on-end c =
     let h = c .before .before .before in
-    omega (arith, few h, sound-long (h .before .before .before .pre .0) .counts)
+    omega (arith, few h, sound-long (h .before .before .before .pre) .counts)
 
 opens-on-requires : tie.Need-opens-on-requires
 opens-on-requires c κs =
     let h = c .before .before .before .before in
-    (rises h, rw (h .load-header .ensures) (last-day (h .before .before .before .pre .0)))
+    (rises h, rw (h .load-header .ensures) (last-day (h .before .before .before .pre)))
 
 same-length-2 : tie.Need-same-length-2
 same-length-2 c = search needs
@@ -93,7 +93,7 @@ returns-2 : tie.Need-returns-2
 returns-2 c =
     let t = c .before in
     let s = t .before .before .before .before .before .before .before .before in
-    made-off (s .pre .0) _ (shut (t .before .before .before)) (sym (opens-is t) ∙ not-true _ (c .if2 .taken))
+    made-off (s .pre) _ (shut (t .before .before .before)) (sym (opens-is t) ∙ not-true _ (c .if2 .taken))
 
 add-listed-on : tie.Need-add-listed-on
 add-listed-on c = omega (arith, few (c .before .before .before .before .before .before))
@@ -107,7 +107,7 @@ part-listed-on-start c = search needs
 part-listed-on-end : tie.Need-part-listed-on-end
 part-listed-on-end c =
     let h = c .before .before .before .before .before .before .before in
-    omega (arith, few h, sound-long (h .before .before .before .pre .0) .counts)
+    omega (arith, few h, sound-long (h .before .before .before .pre) .counts)
 
 listed-on-requires : tie.Need-listed-on-requires
 listed-on-requires c κs = rises (c .before .before .before .before .before .before .before .before)
@@ -120,14 +120,14 @@ returns-3 c =
     let t = c .before .before in
     let e = t .before .before .before in
     let s = e .before .before .before .before .before .before .before .before .before in
-    made-unknown (s .pre .0) _ (shut (e .before .before .before .before)) (opens e)
+    made-unknown (s .pre) _ (shut (e .before .before .before .before)) (opens e)
     (sym (ap (λ (x : Listing). x .known) (listing-is t)) ∙ not-true _ (c .if3 .taken))
 
 relist-requires : tie.Need-relist-requires
 relist-requires c κs =
     let e = c .before .before .before .before .before .before .before .before in
     let s = e .before .before .before .before .before .before .before .before .before in
-    (sound-long (s .pre .0), (sound-listed (s .pre .0), sound-members (s .pre .0)))
+    (sound-long (s .pre), (sound-listed (s .pre), sound-members (s .pre)))
 
 open-header-requires : tie.Need-open-header-requires
 open-header-requires c κs = search needs
@@ -137,7 +137,7 @@ store-header-requires c κs =
     let t = c .before .before .before .before .before in
     let e = t .before .before .before .before .before .before .before .before .before in
     let s = e .before .before .before .before .before .before .before .before .before in
-    t .relist .kept .0 ∙ sound-long (s .pre .0) .counts
+    t .relist .kept .0 ∙ sound-long (s .pre) .counts
 
 same-length-4 : tie.Need-same-length-4
 same-length-4 c = search needs
@@ -156,7 +156,7 @@ returns-4 c =
     let h = e .before .before .before .before .before .before in
     let s = h .before .before .before in
     rw (put .store-header .ensures, made .open-header .ensures, h .load-header .ensures)
-    (made-open (s .pre .0) _ (shut (e .before .before .before .before)) (opens e)
+    (made-open (s .pre) _ (shut (e .before .before .before .before)) (opens e)
     (sym (ap (λ (x : Listing). x .known) (listing-is l)) ∙ not-false _ (last .if3 .left))
     (rw (ap (λ (x : Listing). x .codes) (listing-is l)) at (t .relist .ensures)))
 

@@ -27,11 +27,7 @@ array-read-open-day : tie.Need-array-read-open-day
 array-read-open-day c = search needs
 
 open-day-requires : tie.Need-open-day-requires
-unfolding callOf
-open-day-requires c κs =
-    let s = c .before .before .before .before .before in
-    let g = rw (c .before .before .before .before .match .keys1) at (s .pre .1 .0) in
-    (s .pre .0, g .day)
+open-day-requires c κs = search needs
 
 numbered-requires : tie.Need-numbered-requires
 numbered-requires c κs = search needs

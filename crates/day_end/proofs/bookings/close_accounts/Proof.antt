@@ -1,11 +1,11 @@
 use mathlib.Core.Path.{_≡_, sym, ap, _∙_, subst}
-use Prim.Native.Nat.{_+_, _-_, _≤_, _<_}
+use Prim.Native.Nat.{_-_, _≤_, _<_}
 use native.Mathlib.Omega.{arith}
 use Rattle.memory.specs.declared.header_row.Header.{Header}
 use Rattle.memory.specs.Layout.{Long}
 use Rattle.memory.specs.MemoryLaws.{memory-long, header-is}
 use Rattle.standing.specs.CloseRows.{closedRow}
-use Rattle.standing.specs.WalkLaws.{walked, walked-shaped, walk-row, walk-step}
+use Rattle.standing.specs.WalkLaws.{walked, walk-row, walks-none, walks-more}
 use Rattle.standing.specs.Turns.{Whole, Turns}
 use Rattle.day_end.specs.TurnLaws.{closed-six}
 use Rattle.day_end.proofs.bookings.close_accounts.Statement.{statement}
@@ -39,7 +39,7 @@ load-header-requires : tie.Need-load-header-requires Inv-loop μ-loop
 load-header-requires c κs = let p = c .before .before .pre in memory-long _ (p .whole .shaped) (p .whole .holds) .counts
 
 loop-holds : tie.Need-loop-holds Inv-loop μ-loop
-loop-holds c = (omega arith, λ r w. w)
+loop-holds c = let s = c .before .before .before .args in (omega arith, walks-none _ _ (closedRow (s .ended) (s .d)))
 
 load-account-requires : tie.Need-load-account-requires Inv-loop μ-loop
 load-account-requires c κs = let turn = c .before .before in (long (turn .before), inside turn)
@@ -74,17 +74,10 @@ loop-again c =
     let turn = row .before .before .before .before in
     let l = turn .before .loop in
     let s = turn .before .before .before .before .before in
-    let f = closedRow (s .args .ended) (s .args .d) in
-    let six = closed-six (s .args .ended) (s .args .d) (s .pre .known .end) in (
-      omega arith,
-      λ r w. record {
-        shaped = walked-shaped r (w .shaped) f six (l .i + 1);
-        holds = walk-step r (w .shaped) f six (l .i) (l .inv .1 r w .holds) (inside turn)
-            (row .closed-row .ensures ∙ ap f (row .before .load-account .ensures))
-            (store .store-account .ensures .0)
-            (store .store-account .ensures .1);
-      },
-    )
+    let did = row .closed-row .ensures ∙ ap (closedRow (s .args .ended) (s .args .d)) (row .before .load-account .ensures) in
+    let six = closed-six (s .args .ended) (s .args .d) (s .pre .known .end) in
+    let put = store .store-account .ensures in
+    (omega arith, walks-more _ _ _ (l .i) six (l .inv .1) (inside turn) did (put .0) (put .1))
 
 same-length : tie.Need-same-length Inv-loop μ-loop
 same-length c =

@@ -7,9 +7,9 @@ use Rattle.lists.specs.Parts.{part-width}
 use Rattle.whole.specs.Machine.{back}
 use Rattle.days.specs.Days.{rising, isOn, isWorking}
 use Rattle.calendar.specs.Months.{lastTradingOf}
-use Rattle.memory.specs.declared.header_row.Header.{Header}
 use Rattle.memory.specs.Layout.{Long}
-use Rattle.memory.specs.MemoryLaws.{memory-long, header-is, exceptions-part, contract-is}
+use Rattle.memory.specs.MemoryLaws.{memory-long, header-is, contract-is}
+use Rattle.standing.specs.SoundLaws.{exceptions-read}
 use Rattle.standing.specs.CloseRows.{outcomeFrom}
 use Rattle.day_end.specs.ReadLaws.{outcome-read}
 use Rattle.day_end.proofs.outcomes.outcome_at.Statement.{statement}
@@ -46,10 +46,8 @@ ends-on-requires : tie.Need-ends-on-requires
 ends-on-requires c κs =
     let load = c .before .before in
     let p = load .before .before .pre .0 in
-    let n = load .load-header .result .exceptions in
-    ap (λ k. rising (take k (drop 10 (load .before .before .args .counts .now)))) (part-width 10 n)
-    ∙ ap rising (exceptions-part (p .rows) (p .whole .shaped) (p .whole .holds) n (few load))
-    ∙ ap (λ (h : Header). rising (take (h .exceptions) (p .rows .exceptions))) (header load)
+    ap (λ k. rising (take k (drop 10 (load .before .before .args .counts .now)))) (part-width 10 (load .load-header .result .exceptions))
+    ∙ ap rising (exceptions-read (p .rows) (p .whole) (load .load-header .ensures) (few load))
     ∙ p .known .rises
 
 outcome-of-requires : tie.Need-outcome-of-requires

@@ -5,10 +5,10 @@ use lib.ListN.{length}
 use Rattle.lists.specs.Tabulate.{tab-length}
 use Rattle.accounts.specs.declared.Account.{Account}
 use Rattle.memory.specs.Layout.{Long}
-use Rattle.standing.specs.WalkLaws.{walked}
+use Rattle.standing.specs.WalkLaws.{walked, walks-none, walks-more}
 use Rattle.standing.specs.OpenRows.{relisted}
 use Rattle.standing.specs.Turns.{Turns}
-use Rattle.opening.specs.Putting.{still-long, walks-none, walks-more}
+use Rattle.opening.specs.Putting.{still-long}
 use Rattle.opening.proofs.members.relist_members.Statement.{statement}
 use Rattle.opening.proofs.members.relist_members.Tie as tie
 

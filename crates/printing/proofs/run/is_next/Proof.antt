@@ -1,5 +1,6 @@
 -- Each answer says which tests were passed; one that says no promises nothing.
 use mathlib.Core.Bool.{false≢true}
+use mathlib.Core.Logic.{inl, inr}
 use Prim.Native.Nat.{_-_, _<_, _≤_}
 use native.Mathlib.Omega.{arith}
 use borrow.Author.Needs.{needs}
@@ -21,14 +22,14 @@ returns-3 c = λ some.
     let tested = c .before .before in
     let before = tested .before .before .before in
     let left : 0 < before .args .end - before .args .p .at = ltb-true _ _ some in
-    (tested .before .before .if1 .left, (omega arith, tested .if2 .left))
+    record { good = tested .before .before .if1 .left; inside = omega arith; room = tested .if2 .left; whole = inl (c .if3 .taken) }
 
 returns-4 : tie.Need-returns-4
 returns-4 c = λ enough.
     let tested = c .before .before in
     let before = tested .before .before .before in
     let left : 4140 ≤ before .args .end - before .args .p .at = leb-true _ _ enough in
-    (tested .before .before .if1 .left, (omega arith, tested .if2 .left))
+    record { good = tested .before .before .if1 .left; inside = omega arith; room = tested .if2 .left; whole = inr left }
 
 pub is-next-spec : {M : Type 1} → statement M
 is-next-spec = tie.close (tie.spec returns returns-2 sub-left returns-3 returns-4)

@@ -1,18 +1,28 @@
--- A turn begins and ends with a part of the block, and what it writes is within the room.
+-- A turn begins and ends with a part of the block, what it writes is within the room, and that is what the file prints.
+use mathlib.Core.Bool.{false}
 use Prim.Native.Nat.{ℕ, _≤_}
 use lib.ListN.{length-take}
 use native.Mathlib.Omega.{arith}
 use borrow.Author.Needs.{needs}
-use Rattle.printing.specs.Turns.{GoesOn}
+use Rattle.printing.specs.Turns.{Within, GoesOn, Reaches}
+use Rattle.printing.specs.Blocks.{start, TurnedTo}
+use Rattle.printing.specs.BlockLaws.{turn-taken, turned-taken}
+use Rattle.printing.specs.declared.run.Window.{Window}
+use Rattle.printing.specs.declared.run.Progress.{Progress}
 use Rattle.printing.specs.declared.run.Turn.{Turn}
 use Rattle.printing.specs.declared.run.Turn.the-variants.{On, Ended}
 use Rattle.printing.proofs.run.take_turn.Statement.{statement}
 use Rattle.printing.proofs.run.take_turn.Tie as tie
 
--- a part of a part of the block is a part of it
-wider : {part whole : ℕ} (t : Turn) → part ≤ whole → GoesOn part t → GoesOn whole t
-wider (On w) short goes = (goes .0, omega arith)
-wider (Ended written) short goes = tt
+-- a run goes on within the block, at most a block further on in the file
+goes-on : {size end : ℕ} (w : Window) {p : Progress} (t : Turn) → Within size w → end ≤ w .to → Reaches end (start w) p → TurnedTo p w t
+    → GoesOn size (w .place) t
+goes-on w (On next) within short reached (good, is) =
+    let inside = reached .inside in
+    let on = reached .on in
+    let along = reached .along in
+    rw is ((omega arith, within .1), omega arith)
+goes-on w (Ended written) within short reached turned = tt
 
 refill-requires : tie.Need-refill-requires
 refill-requires c κs = search needs
@@ -25,8 +35,11 @@ slice-aggregate-print-block c = simp length-take (omega arith)
 
 print-block-requires : tie.Need-print-block-requires
 print-block-requires c κs =
-    let start = c .before .before .before .before .before .before .before .before .before .before in
-    (start .pre .0, (simp length-take (omega arith), omega arith))
+    let read = c .before .before .before .before .before .before in
+    let first = read .before .before .before .before in
+    let here = read .refill .ensures .place in
+    let inside = read .refill .ensures .within in
+    (first .pre .0, ((simp length-take (omega arith), omega arith), simp length-take (omega arith)))
 
 slice-reshare-prefix-write-all : tie.Need-slice-reshare-prefix-write-all
 slice-reshare-prefix-write-all c = search needs
@@ -44,12 +57,13 @@ same-length-2 : tie.Need-same-length-2
 same-length-2 c = search needs
 
 returns : tie.Need-returns
-returns c = search needs
+returns c =
+    let printed = c .before .before .before .before .before in
+    let read = printed .before .before .before .before .before .before .before in
+    (printed .print-block .ensures .0, (tt, turn-taken (read .refill .ensures) (printed .print-block .ensures .1 .1) (Ended false) tt))
 
 turned-requires : tie.Need-turned-requires
-turned-requires c κs =
-    let p = c .before .before .before .before .before .print-block in
-    omega (arith, simp length-take at (p .ensures .1 .0))
+turned-requires c κs = search needs
 
 same-length-3 : tie.Need-same-length-3
 same-length-3 c = search needs
@@ -61,7 +75,16 @@ returns-2 : tie.Need-returns-2
 returns-2 c =
     let printed = c .before .before .before .before .before .before in
     let read = printed .before .before .before .before .before .before .before in
-    (printed .print-block .ensures .0, wider (c .turned .result) (read .refill .ensures .1) (c .turned .ensures))
+    let refilled = read .refill .ensures in
+    let block = printed .print-block .ensures in
+    let t = c .turned .result in (
+      block .0,
+      (
+        rw (refilled .place) at
+            (goes-on (read .refill .result) t (refilled .within) (simp length-take (omega arith)) (block .1 .0) (c .turned .ensures)),
+        turned-taken refilled (block .1 .1) t (c .turned .ensures),
+      ),
+    )
 
 pub take-turn-spec : {M : Type 1} → statement M
 take-turn-spec =

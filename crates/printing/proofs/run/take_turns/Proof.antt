@@ -1,5 +1,6 @@
--- Each turn leaves a sound memory and a part of the block to go on with.
+-- Each turn leaves a sound memory and a part of the block to go on with, and takes at most a block of the file.
 use mathlib.Core.Path.{_≡_}
+use Prim.Native.Nat.{_+_, _*_, _≤_}
 use lib.ListN.{length}
 use native.Mathlib.Omega.{arith}
 use borrow.Author.Needs.{needs}
@@ -10,7 +11,8 @@ use Rattle.printing.proofs.run.take_turns.Tie as tie
 
 abbrev Inv-loop : tie.InvT-loop
 Inv-loop counts₀ money₀ input output block₀ room₀ w₀ turns₀ counts money block room w turns =
-    Sound counts money × (Within (length block) w × ((length block ≡ length block₀) × (length room ≡ length room₀)))
+    Sound counts money
+    × (Within (length block) w × ((length block ≡ length block₀) × ((length room ≡ length room₀) × (w .place + 65536 * turns ≤ 9223372036854775808))))
 
 abbrev μ-loop : tie.MeasureT-loop
 μ-loop counts₀ money₀ input output block₀ room₀ w₀ turns₀ counts money block room w turns = turns
@@ -21,7 +23,7 @@ loop-holds c = search needs
 take-turn-requires : tie.Need-take-turn-requires Inv-loop μ-loop
 take-turn-requires c κs =
     let inv = c .before .before .before .before .before .loop .inv in
-    (inv .0, (inv .1 .0, omega arith))
+    (inv .0, ((inv .1 .0, (omega arith, omega arith)), omega arith))
 
 enum-known-turn : tie.Need-enum-known-turn Inv-loop μ-loop
 enum-known-turn c = search needs
@@ -47,8 +49,8 @@ loop-less c = search needs
 loop-again : tie.Need-loop-again Inv-loop μ-loop
 loop-again c =
     let turn = c .before .before .before .before .before .before .before .take-turn in
-    let next = rw (c .before .turn2 .given .1) at (turn .ensures .1) in
-    (turn .ensures .0, ((next .0, omega arith), (omega arith, omega arith)))
+    let next = rw (c .before .turn2 .given .1) at (turn .ensures .1 .0) in
+    (turn .ensures .0, ((next .0 .0, omega arith), (omega arith, (omega arith, omega arith))))
 
 same-length-3 : tie.Need-same-length-3 Inv-loop μ-loop
 same-length-3 c = search needs
