@@ -223,6 +223,7 @@ fn take_turns(
     room: &mut [u8],
 ) -> bool
     requires { ⌜ Sound (now counts) (now money) × ((length (now block) ≤ 65536) × (65536 ≤ length (now room))) ⌝ }
+    ensures { λ _. ⌜ Sound (now (counts .exit)) (now (money .exit)) ⌝ }
 {
     let mut w = Window {
         from: 0,
@@ -245,16 +246,32 @@ fn take_turns(
 }
 
 // Lends arrays as the block and the room. Their lengths are known by their types, and are not counted out.
-fn run_within(input: i32, output: i32, block: &mut [u8; BLOCK], room: &mut [u8; BLOCK]) -> bool {
-    let mut counts = [0u64; COUNTS];
-    let mut money = [0i64; MONEY];
-    new_book(&mut counts, &mut money);
-    take_turns(&mut counts, &mut money, input, output, block, room)
+fn run_within(
+    counts: &mut [u64; COUNTS],
+    money: &mut [i64; MONEY],
+    input: i32,
+    output: i32,
+    block: &mut [u8; BLOCK],
+    room: &mut [u8; BLOCK],
+) -> bool
+    requires { ⌜ Sound (now counts) (now money) ⌝ }
+    ensures { λ _. ⌜ Sound (now (counts .exit)) (now (money .exit)) ⌝ }
+{
+    take_turns(counts, money, input, output, block, room)
 }
 
-// Prints the day of the file that `input` reads, and answers whether all of it was written.
-pub fn run_day(input: i32, output: i32) -> bool {
+// Prints the day of the file that `input` reads, on a new book, and answers whether all of it was written. The memory lent is then that of the
+// book after the file's records, as far as they were read.
+pub fn run_day(
+    counts: &mut [u64; COUNTS],
+    money: &mut [i64; MONEY],
+    input: i32,
+    output: i32,
+) -> bool
+    ensures { λ _. ⌜ Sound (now (counts .exit)) (now (money .exit)) ⌝ }
+{
+    new_book(&mut *counts, &mut *money);
     let mut block = [0u8; BLOCK];
     let mut room = [0u8; BLOCK];
-    run_within(input, output, &mut block, &mut room)
+    run_within(counts, money, input, output, &mut block, &mut room)
 }

@@ -1,5 +1,7 @@
 // Prints the days of the event files that its arguments name, each under a line with the file's name.
 use libc::STDOUT_FILENO;
+use memory::COUNTS;
+use memory::MONEY;
 use printing::run_day;
 
 // Prints the day of one file, and answers whether all of it was written. A file that cannot be opened is named, and the next one is tried.
@@ -10,7 +12,9 @@ fn print_file(path: &[u8]) -> bool {
         return io::write_all(STDOUT_FILENO, b" cannot be read\n");
     }
     io::write_all(STDOUT_FILENO, b"\n");
-    let written = run_day(input, STDOUT_FILENO);
+    let mut counts = [0u64; COUNTS];
+    let mut money = [0i64; MONEY];
+    let written = run_day(&mut counts, &mut money, input, STDOUT_FILENO);
     libc::close(input);
     written
 }
