@@ -17,7 +17,7 @@ use Rattle.records.specs.Records.{Entry, entry, Parsed, unread, parsed, reading
 use Rattle.records.specs.RecordLaws.{reading-writing}
 use Rattle.records.specs.Reading.{placed, readingAt}
 use Rattle.records.specs.ReadingLaws.{announced-padded, Stands, lies, reads-on}
-use Rattle.records.specs.Files.{writings, AllWhole}
+use Rattle.records.specs.Files.{writings, AllWhole, nothing-there}
 use Rattle.memory.specs.Memory.{Holds}
 use Rattle.model.specs.Book.{new}
 use Rattle.model.specs.History.{run}
@@ -156,10 +156,7 @@ none-left s place h = rw (drop-of-length-le s h)
 pub reads-written : (l : List Entry) → AllWhole l → (entries : List Entry) (left : List ℕ) → ReadsTo (writings l) entries left → entries ≡ l
 unfolding ReadsTo writings AllWhole
 reads-written [] w [] left r = refl
-reads-written [] w (e ∷ more) left (rest, (q, r)) =
-    let t : unread ≡ parsed e rest = sym (none-left [] 0 zero-le) ∙ q in
-    let z : _≡_ {A = ℕ} 0 1 = cc in
-    absurd (omega arith)
+reads-written [] w (e ∷ more) left (rest, (q, r)) = absurd (nothing-there e rest q)
 reads-written (m ∷ l) (w, ws) [] left (q, r) =
     let t : unread ≡ parsed m (writings l) = sym r ∙ reading-writing m (writings l) w in
     let z : _≡_ {A = ℕ} 0 1 = cc in

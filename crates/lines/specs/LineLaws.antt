@@ -1,6 +1,6 @@
 -- A line put field by field, and a line for each of some keys in rising order.
 use mathlib.Core.Path.{_≡_, refl, sym, ap, _∙_, subst}
-use mathlib.Core.Bool.{Bool, true, false, cond}
+use mathlib.Core.Bool.{true}
 use mathlib.Core.List.{List, [], _∷_, _++_, append-assoc, append-nil}
 use Prim.Native.Nat.{ℕ, suc, _+_, _*_, _≤_, _<_}
 use native.Mathlib.Nat.{mul-le-mul-right}
@@ -9,8 +9,9 @@ use lib.Dec.{ltb}
 use lib.IntN.{ℤ}
 use lib.ListN.{length, length-append}
 use Rattle.lists.specs.Block.{block}
+use Rattle.lists.specs.BlockLaws.{block-last}
 use Rattle.lists.specs.Has.{has}
-use Rattle.lists.specs.Those.{those}
+use Rattle.lists.specs.Those.{those-fewer}
 use Rattle.decimal.specs.Decimal.{numeral, signedNumeral}
 use Rattle.decimal.specs.Put.{Put}
 use Rattle.decimal.specs.PutLaws.{put-none, put-more, put-length, numeral-length, signed-length}
@@ -70,20 +71,6 @@ module _ {room room′ first : List ℕ} {at most p : ℕ} where
       line-ends h put = rw (append-assoc first (spaced fields) (10 ∷ [])) at (put-more (omega (arith, b .short)) (b .put) put)
 
 -- ---- a line for each key
-before-length : (from : ℕ) (ns : List ℕ) → length (before from ns) ≤ length ns
-unfolding those
-before-length from [] = omega arith
-before-length from (n ∷ ns) = go (ltb n from) (before-length from ns)
-  where
-    go : (t : Bool) → length (before from ns) ≤ length ns → length (cond t (n ∷ before from ns) (before from ns)) ≤ suc (length ns)
-    go true h = omega arith
-    go false h = omega arith
-
-block-last : (f : ℕ → List ℕ) (ns : List ℕ) (k : ℕ) → block f (ns ++ (k ∷ [])) ≡ block f ns ++ f k
-unfolding block
-block-last f [] k = append-nil (f k)
-block-last f (n ∷ ns) k = rw (block-last f ns k) (sym (append-assoc (f n) (block f ns) (f k)))
-
 pub block-short : (lineOf : ℕ → List ℕ) (w : ℕ) → ((k : ℕ) → length (lineOf k) ≤ w) → (ns : List ℕ) → length (block lineOf ns) ≤ length ns * w
 unfolding block
 block-short lineOf w wide [] = omega arith
@@ -117,7 +104,7 @@ module _ {lineOf : ℕ → List ℕ} {keys : List ℕ} where
     rows-left =
         let all : length done + 1 ≤ n = omega (
           arith,
-          before-length (k + 1) (inOrder keys),
+          those-fewer (λ n. ltb n (k + 1)) (inOrder keys),
           in-order-length keys,
           ap length (ordered-next keys from k lowest),
           length-append done (k ∷ []),

@@ -1,4 +1,4 @@
--- Rows of equal width, written one after the other.
+-- Rows written one after the other.
 use mathlib.Core.List.{List, [], _∷_, _++_}
 
 unfoldable pub block : {X Y : Type 0} → (X → List Y) → List X → List Y

@@ -1,6 +1,6 @@
 -- A row of a block is a part of it, whatever stands before and after the block.
-use mathlib.Core.Path.{_≡_, ap, _∙_}
-use mathlib.Core.List.{append-assoc, List, [], _∷_, _++_}
+use mathlib.Core.Path.{_≡_, sym, ap, _∙_}
+use mathlib.Core.List.{append-assoc, append-nil, List, [], _∷_, _++_}
 use Prim.Native.Nat.{ℕ, zero, suc, _+_, _*_, _≤_, _<_}
 use native.Mathlib.Nat.{zero-add, add-assoc, zero-mul, suc-mul, mul-le-mul-right}
 use native.Mathlib.Omega.{arith}
@@ -8,6 +8,12 @@ use lib.ListN.{length, getD, set, take, drop, length-append, length-drop}
 use lib.Seq.{take-at, drop-at, take-add, drop-drop, take-append-le, drop-append-le}
 use Rattle.lists.specs.Parts.{part, withPart}
 use Rattle.lists.specs.Block.{block}
+
+-- one row more at the end
+pub block-last : {X Y : Type 0} (cells : X → List Y) (xs : List X) (x : X) → block cells (xs ++ (x ∷ [])) ≡ block cells xs ++ cells x
+unfolding block
+block-last cells [] x = append-nil (cells x)
+block-last cells (y ∷ xs) x = rw (block-last cells xs x) (sym (append-assoc (cells y) (block cells xs) (cells x)))
 
 -- a part of a list after another, before another, and between two
 module _ {X : Type 0} (b w : ℕ) (l : List X) where

@@ -2,11 +2,24 @@
 use mathlib.Core.Path.{_≡_, refl, _∙_, ap}
 use mathlib.Core.Bool.{Bool, true, false, cond}
 use mathlib.Core.List.{List, [], _∷_, _++_, map}
+use Prim.Native.Nat.{suc, _≤_}
+use native.Mathlib.Omega.{arith}
+use lib.ListN.{length}
 use Rattle.lists.specs.Rows.{map-append}
 
 unfoldable pub those : {X : Type 0} → (X → Bool) → List X → List X
 those p [] = []
 those p (x ∷ xs) = cond (p x) (x ∷ those p xs) (those p xs)
+
+-- no more than there are
+pub those-fewer : {X : Type 0} (p : X → Bool) (xs : List X) → length (those p xs) ≤ length xs
+unfolding those
+those-fewer p [] = omega arith
+those-fewer p (x ∷ xs) = go (p x) (those-fewer p xs)
+  where
+    go : (t : Bool) → length (those p xs) ≤ length xs → length (cond t (x ∷ those p xs) (those p xs)) ≤ suc (length xs)
+    go true h = omega arith
+    go false h = omega arith
 
 -- one more at the end
 pub those-more : {X : Type 0} (p : X → Bool) (xs : List X) (x : X)

@@ -1,6 +1,6 @@
 -- Rows of equal width, written one after the other from the start of a list on.
-use mathlib.Core.Path.{_≡_, refl, sym, ap, _∙_}
-use mathlib.Core.List.{append-assoc, append-nil, List, [], _∷_, _++_}
+use mathlib.Core.Path.{_≡_, ap, _∙_}
+use mathlib.Core.List.{List, _++_}
 use Prim.Native.Nat.{ℕ, _+_, _*_, _≤_}
 use native.Mathlib.Nat.{zero-add}
 use native.Mathlib.Numerals.{add-one}
@@ -9,20 +9,15 @@ use lib.ListN.{length}
 use Rattle.lists.specs.Parts.{withPart, withPart-join, withPart-all}
 use Rattle.lists.specs.Tabulate.{tab, tab-length}
 use Rattle.lists.specs.Block.{block}
-use Rattle.lists.specs.BlockLaws.{block-length}
+use Rattle.lists.specs.BlockLaws.{block-length, block-last}
 
 abbrev pub written : {X Y : Type 0} → (X → List Y) → ℕ → (ℕ → X) → List Y → ℕ → List Y
 written cells w row l k = withPart 0 (k * w) l (block cells (tab row k))
 
-block-append : {X Y : Type 0} (cells : X → List Y) (xs ys : List X) → block cells (xs ++ ys) ≡ block cells xs ++ block cells ys
-unfolding block
-block-append cells [] ys = refl
-block-append cells (x ∷ xs) ys = rw (block-append cells xs ys) (sym (append-assoc (cells x) (block cells xs) (block cells ys)))
-
 module _ {X Y : Type 0} (cells : X → List Y) (w : ℕ) (wide : (x : X) → length (cells x) ≡ w) (row : ℕ → X) (l : List Y) (k : ℕ) where
   next-rows : block cells (tab row (k + 1)) ≡ block cells (tab row k) ++ cells (row k)
-  unfolding tab block
-  next-rows = rw (add-one k) (block-append cells (tab row k) (row k ∷ []) ∙ ap (λ t. block cells (tab row k) ++ t) (append-nil (cells (row k))))
+  unfolding tab
+  next-rows = rw (add-one k) (block-last cells (tab row k) (row k))
 
   pub written-next : k * w + w ≤ length l → withPart (k * w) w (written cells w row l k) (cells (row k)) ≡ written cells w row l (k + 1)
   written-next h =

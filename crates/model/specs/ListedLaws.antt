@@ -3,14 +3,14 @@
 use mathlib.Core.Path.{_≡_, refl, sym, _∙_, ap, subst}
 use mathlib.Core.Bool.{Bool, true, false, not, cond, _&&_, and-eq-true-iff}
 use mathlib.Core.List.{List, [], _∷_}
-use Prim.Native.Nat.{ℕ, suc, _+_, _-_, _≤_, _<_}
+use Prim.Native.Nat.{ℕ, _+_, _-_, _≤_, _<_}
 use native.Mathlib.Omega.{arith}
 use borrow.Author.Tests.{ltb-true, eqb-true, eqb-false, lt-ltb, not-true}
 use lib.IntN.{ℤ, pos}
 use lib.ListN.{length}
 use Rattle.lists.specs.Has.{has}
 use Rattle.lists.specs.HasLaws.{byTest, clash, when-true, when-false, cond-same, or-skip, those-has, Distinct, distinct-those}
-use Rattle.lists.specs.Those.{those}
+use Rattle.lists.specs.Those.{those, those-fewer}
 use Rattle.days.specs.declared.Day.{Day}
 use Rattle.days.specs.declared.Day.the-variants.{On, NoDay}
 use Rattle.days.specs.Days.{nextWorking, isOn}
@@ -143,15 +143,6 @@ pub listed : (h : List Entry) → Listed (run h)
 listed = induct-tests (λ b l. Listed b) begins listed-more
 
 -- ---- the codes themselves
-those-fewer : (p : ℕ → Bool) (cs : List ℕ) → length (those p cs) ≤ length cs
-unfolding those
-those-fewer p [] = omega arith
-those-fewer p (c ∷ cs) = go (p c) (those-fewer p cs)
-  where
-    go : (t : Bool) → length (those p cs) ≤ length cs → length (cond t (c ∷ those p cs) (those p cs)) ≤ suc (length cs)
-    go true h = omega arith
-    go false h = omega arith
-
 module _ (w : ℕ → Bool) (day : ℕ) where
   at-distinct : (p : Point) → (isDated p ≡ true → listing w day .known ≡ true) → Distinct (codesAt w p day)
   at-distinct unstarted k = tt

@@ -2,16 +2,16 @@
 use mathlib.Core.Path.{_≡_, refl, sym, ap, ap₂, _∙_, subst, subst₂}
 use mathlib.Core.Logic.{_⊎_, inl, inr}
 use mathlib.Core.List.{List, [], _∷_, _++_, append-nil}
-use Prim.Native.Nat.{ℕ, zero, suc, _+_, _-_, _≤_, _<_, zero-le}
+use Prim.Native.Nat.{ℕ, zero, suc, _+_, _-_, _≤_, _<_}
 use native.Mathlib.Omega.{arith}
 use lib.IntN.{ℤ}
 use lib.ListN.{length, drop, length-append, length-drop}
 use Rattle.numbers.specs.Below.{Small, below-append, below-drop}
 use Rattle.records.specs.Records.{Entry, Parsed, unread, parsed, reading}
+use Rattle.records.specs.Files.{nothing-there}
 use Rattle.model.specs.Book.{Book}
 use Rattle.model.specs.Answers.{called, answer}
 use Rattle.standing.specs.Standing.{view}
-use Rattle.book.specs.FeedingLaws.{none-left}
 use Rattle.decimal.specs.Put.{Put}
 use Rattle.lines.specs.Lines.{answerText, badText}
 use Rattle.printing.specs.declared.one_record.Printed.{Printed}
@@ -20,17 +20,14 @@ use Rattle.printing.specs.Printed.{Prints, PrintsFirst, ended, spoilt, a
 use Rattle.printing.specs.WindowLaws.{never-read, read-on, unread-on, record-ends}
 
 -- ---- a file has one printed day
-empty-unread : (e : Entry) (rest : List ℕ) → reading [] ≡ parsed e rest → ⊥
-empty-unread e rest q = never-read e rest (sym (none-left [] 0 zero-le) ∙ q)
-
 pub prints-only : {b : Book} {place : ℕ} {s t u : List ℕ} → Prints b place s t → Prints b place s u → t ≡ u
 prints-only ended ended = refl
 prints-only ended (spoilt some q) = absurd (omega arith)
-prints-only ended (answered {e} {rest} q p) = absurd (empty-unread e rest q)
+prints-only ended (answered {e} {rest} q p) = absurd (nothing-there e rest q)
 prints-only (spoilt some q) ended = absurd (omega arith)
 prints-only (spoilt some q) (spoilt more p) = refl
 prints-only (spoilt some q) (answered {e} {rest} r p) = absurd (never-read e rest (sym q ∙ r))
-prints-only (answered {e} {rest} q p) ended = absurd (empty-unread e rest q)
+prints-only (answered {e} {rest} q p) ended = absurd (nothing-there e rest q)
 prints-only (answered {e} {rest} q p) (spoilt some r) = absurd (never-read e rest (sym r ∙ q))
 prints-only (answered {b} {place} {bytes} {e} {rest} {text} q p) (answered {e = f} {rest = left} {text = other} r o) =
     let same : parsed f left ≡ parsed e rest = sym r ∙ q in

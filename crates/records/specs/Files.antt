@@ -40,7 +40,7 @@ file-reads [] w = refl
 file-reads (e ∷ more) (w, ws) = (writings more, reading-writing e (writings more) w, file-reads more ws)
 
 -- no other records are in it
-nothing-there : (e : Entry) (rest : List ℕ) → reading [] ≡ parsed e rest → ⊥
+pub nothing-there : (e : Entry) (rest : List ℕ) → reading [] ≡ parsed e rest → ⊥
 unfolding reading unbounded
 nothing-there e rest q = let z : _≡_ {A = ℕ} 0 1 = cc in absurd (omega arith)
 
