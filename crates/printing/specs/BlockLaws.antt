@@ -4,26 +4,25 @@ use mathlib.Core.Bool.{Bool, true, false, false≢true}
 use mathlib.Core.Logic.{_⊎_, inl, inr}
 use mathlib.Core.List.{List, [], _++_, append-nil, append-assoc}
 use Prim.Native.Nat.{ℕ, _+_, _-_, _≤_, _<_}
-use native.Mathlib.Numerals.{add-one}
 use native.Mathlib.Omega.{arith}
 use lib.IntN.{ℤ}
-use lib.ListN.{length, take, drop, getD, set, length-drop}
-use lib.Seq.{take-suc, take-suc-set, drop-set-lt, drop-drop, getD-drop, take-add, take-append-add, take-append-le, take-append-seam, drop-at}
-use lib.Seq.{length-take-le, slice-empty}
+use lib.ListN.{length, take, drop, length-drop}
+use lib.Seq.{take-append-seam, slice-empty}
 use Rattle.numbers.specs.Below.{Small}
 use Rattle.standing.specs.Standing.{view}
 use Rattle.decimal.specs.PutLaws.{put-none, put-more}
 use Rattle.lines.specs.Lines.{badText}
+use Rattle.window.specs.declared.Window.{Window}
+use Rattle.window.specs.Window.{held, Refilled}
 use Rattle.printing.specs.declared.one_record.Printed.{Printed}
 use Rattle.printing.specs.declared.one_record.Printed.the-variants.{Next, Bad}
-use Rattle.printing.specs.declared.run.Window.{Window}
 use Rattle.printing.specs.declared.run.Progress.{Progress}
 use Rattle.printing.specs.declared.run.Turn.{Turn}
 use Rattle.printing.specs.declared.run.Turn.the-variants.{On, Ended}
 use Rattle.printing.specs.Printed.{Prints, ended, PrintedAt}
 use Rattle.printing.specs.PrintedLaws.{printed-next, printed-bad}
-use Rattle.printing.specs.Turns.{Within, Printable}
-use Rattle.printing.specs.Blocks.{held, start, Follows, Enough, PrintedUpTo, Refilled, TurnedTo, TurnPrints, TurnTaken}
+use Rattle.printing.specs.Turns.{Printable}
+use Rattle.printing.specs.Blocks.{start, Follows, Enough, PrintedUpTo, TurnedTo, TurnPrints, TurnTaken}
 
 -- ---- printing
 -- before the first record
@@ -85,54 +84,9 @@ printed-more {ended} {bytes} {q} {p} {counts₀ = counts₀} {money₀ = money�
           before .first good more (next .text) (next .all bad more (follows-enough (drop (p .at) bytes) whole follows) small);
     }
 
--- ---- moving down: a byte more
-module _ (from moved : ℕ) (old new : List ℕ) (inside : from + moved < length old) (same : length new ≡ length old)
-    (kept : drop moved new ≡ drop moved old) where
-  moved-byte : getD new (from + moved) 0 ≡ getD (drop from old) moved 0
-  moved-byte =
-      let turned : from + moved ≡ moved + from = omega arith in
-      ap (λ i. getD new i 0) turned
-      ∙ sym (getD-drop moved new from 0)
-      ∙ ap (λ l. getD l from 0) kept
-      ∙ getD-drop moved old from 0
-      ∙ ap (λ i. getD old i 0) (sym turned)
-      ∙ sym (getD-drop from old moved 0)
-
-  pub moved-more : take moved new ≡ take moved (drop from old)
-      → take (moved + 1) (set new moved (getD new (from + moved) 0)) ≡ take (moved + 1) (drop from old)
-  moved-more front =
-      let here : moved < length new = omega arith in
-      let there : moved < length (drop from old) = rw (length-drop from old) (omega arith) in
-      rw (add-one, take-suc-set new moved (getD new (from + moved) 0) here, take-suc (drop from old) moved 0 there, front, moved-byte)
-
-  pub kept-more : drop (moved + 1) (set new moved (getD new (from + moved) 0)) ≡ drop (moved + 1) old
-  kept-more =
-      drop-set-lt (moved + 1) new moved (getD new (from + moved) 0) (omega arith)
-      ∙ sym (drop-drop 1 moved new) ∙ ap (drop 1) kept ∙ drop-drop 1 moved old
-
--- ---- reading on
-pub nothing-read : (w : Window) (block : List ℕ) → Within (length block) w → Refilled w block w block
-nothing-read w block within =
-    record { within = within; got = []; bytes = sym (append-nil (held w block)); place = refl; none = λ ended. (refl, ended) }
-
--- what was moved down, and what is read behind it
-pub read-behind : (w : Window) (block moved part tail : List ℕ) (left got : ℕ) → Within (length block) w → w .from + left ≡ w .to
-    → length moved ≡ length block → take left moved ≡ take left (drop (w .from) block) → got ≤ length part
-    → take (left + got) (take left moved ++ (part ++ tail)) ≡ held w block ++ take got part
-read-behind w block moved part tail left got (ordered, inside) ends same front short =
-    let long : length (take left moved) ≡ left = length-take-le left moved (omega arith) in
-    let before : length (take (w .from) block) ≡ w .from = length-take-le (w .from) block (omega arith) in
-    let window : held w block ≡ take left (drop (w .from) block) =
-    ap (λ n. drop (w .from) (take n block)) (sym ends)
-    ∙ ap (drop (w .from)) (take-add (w .from) left block)
-    ∙ drop-at (take (w .from) block) (take left (drop (w .from) block)) (w .from) before in
-    let split : take (left + got) (take left moved ++ (part ++ tail)) ≡ take left moved ++ take got (part ++ tail) =
-    ap (λ n. take (n + got) (take left moved ++ (part ++ tail))) (sym long) ∙ take-append-add (take left moved) (part ++ tail) got in
-    split ∙ rw (take-append-le got part tail short, front, window)
-
 -- ---- a turn: it is read on, then printed, then written
-module _ {counts counts′ : List ℕ} {money money′ : List ℤ} {w r : Window} {p : Progress} {block block′ room room′ : List ℕ}
-    (read : Refilled w block r block′)
+module _ {counts counts′ : List ℕ} {money money′ : List ℤ} {enough : ℕ} {w r : Window} {p : Progress} {block block′ room room′ : List ℕ}
+    (read : Refilled enough w block r block′)
     (printed : PrintedUpTo (Follows (r .ended)) (take (r .to) block′) (start r) counts money room p counts′ money′ room′) where
   -- what is printed of the window, by how the turn ends
   window-prints : (t : Turn) → TurnedTo p r t

@@ -10,18 +10,14 @@ use Rattle.numbers.specs.Below.{Small}
 use Rattle.model.specs.Book.{Book}
 use Rattle.standing.specs.Standing.{view}
 use Rattle.decimal.specs.Put.{Put}
-use Rattle.printing.specs.declared.run.Window.{Window}
+use Rattle.window.specs.declared.Window.{Window}
+use Rattle.window.specs.Window.{held}
 use Rattle.printing.specs.declared.run.Progress.{Progress}
 use Rattle.printing.specs.declared.run.Turn.{Turn}
 use Rattle.printing.specs.declared.run.Turn.the-variants.{On, Ended}
 use Rattle.printing.specs.Printed.{Prints, PrintsFirst}
-use Rattle.printing.specs.Turns.{Within}
 
 -- ---- bytes of a file
--- those of a block that a window has
-abbrev pub held : Window → List ℕ → List ℕ
-held w block = drop (w .from) (take (w .to) block)
-
 -- what may follow in the file: nothing where it has ended
 abbrev pub Follows : Bool → List ℕ → Type 0
 Follows ended more = ended ≡ true → more ≡ []
@@ -43,15 +39,6 @@ pub record PrintedUpTo (May : List ℕ → Type 0) (bytes : List ℕ) (p : Progr
   pub first : r .bad ≡ false
       → PrintsFirst (view counts money) (p .place) (drop (p .at) bytes) text (view counts′ money′) (r .place) (drop (r .at) bytes)
   pub all : r .bad ≡ true → (more : List ℕ) → May more → Small more → Prints (view counts money) (p .place) (drop (p .at) bytes ++ more) text
-
--- ---- reading on
--- the bytes in hand stay, and those that were read follow them; none are read where the file has ended
-pub record Refilled (w : Window) (block : List ℕ) (r : Window) (block′ : List ℕ) : Type 0 where
-  pub within : Within (length block) r
-  pub got : List ℕ
-  pub bytes : held r block′ ≡ held w block ++ got
-  pub place : r .place ≡ w .place
-  pub none : w .ended ≡ true → (got ≡ []) × (r .ended ≡ true)
 
 -- ---- a turn
 -- how a turn ends by what is printed of a window: the run goes on with what is left, or ends at a bad record or at the file's end

@@ -10,10 +10,11 @@ use Rattle.model.specs.Book.{new}
 use Rattle.model.specs.History.{run}
 use Rattle.standing.specs.Standing.{rowsOf, view}
 use Rattle.book.specs.Joined.{fresh, joined}
-use Rattle.printing.specs.declared.run.Window.{Window}
+use Rattle.window.specs.declared.Window.{Window}
+use Rattle.window.specs.Window.{held}
 use Rattle.printing.specs.declared.run.Turn.the-variants.{On, Ended}
 use Rattle.printing.specs.Printed.{Prints}
-use Rattle.printing.specs.Blocks.{held, Follows, TurnTaken}
+use Rattle.printing.specs.Blocks.{Follows, TurnTaken}
 
 -- ---- a run from a memory and a window of a block on, with `more` behind the window in the file: the turns' texts, joined
 -- Each turn begins with the memory, the window and the block that the one before it left. The last one may leave some of the file unread,

@@ -3,16 +3,12 @@ use mathlib.Core.Path.{_≡_}
 use mathlib.Core.Bool.{Bool, true, false, cond}
 use mathlib.Core.Logic.{_⊎_}
 use Prim.Native.Nat.{ℕ, _+_, _-_, _≤_, _<_}
-use Rattle.printing.specs.declared.run.Window.{Window}
+use Rattle.window.specs.Window.{Within}
 use Rattle.printing.specs.declared.run.Progress.{Progress}
 use Rattle.printing.specs.declared.run.Turn.{Turn}
 use Rattle.printing.specs.declared.run.Turn.the-variants.{On, Ended}
 
--- a window is a part of a block of so many bytes
-abbrev pub Within : ℕ → Window → Type 0
-Within size w = (w .from ≤ w .to) × (w .to ≤ size)
-
--- a run that goes on has such a window, at most a block further on in the file
+-- a run that goes on has a window of the block, at most a block further on in the file
 abbrev pub GoesOn : ℕ → ℕ → Turn → Type 0
 GoesOn size place (On w) = Within size w × (w .place ≤ place + size)
 GoesOn size place (Ended written) = Unit

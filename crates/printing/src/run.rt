@@ -3,15 +3,19 @@
 ghost use Prim.Native.Nat.{_+_, _-_, _≤_, _<_};
 ghost use mathlib.Core.Path.{_≡_};
 ghost use mathlib.Core.Bool.{true};
-ghost use lib.ListN.{length, take, drop};
+ghost use lib.ListN.{length, drop};
 ghost use Rattle.standing.specs.Made.{Sound};
-ghost use Rattle.printing.specs.Turns.{Within, GoesOn, Nearer, Reaches, Printable};
-ghost use Rattle.printing.specs.Blocks.{Enough, Follows, PrintedUpTo, Refilled, TurnedTo, TurnTaken, start};
+ghost use Rattle.window.specs.Window.{Within};
+ghost use Rattle.printing.specs.Turns.{GoesOn, Nearer, Reaches, Printable};
+ghost use Rattle.printing.specs.Blocks.{Enough, Follows, PrintedUpTo, TurnedTo, TurnTaken, start};
 use crate::one_record::Printed;
 use crate::one_record::print_record;
 use book::new_book;
 use memory::COUNTS;
 use memory::MONEY;
+use window::Window;
+use window::first_window;
+use window::refill;
 
 // How many bytes of the file are held at a time, and how many of the text.
 const BLOCK: usize = 65536;
@@ -26,15 +30,6 @@ const NEARLY_FULL: usize = 57136;
 // at most a block, so that every place is at most 2^63.
 const TURNS: u64 = 140737488355328;
 
-// The bytes of a block from `from` up to `to` are read and not yet printed. The first of them is at `place` in the file. `ended`: the file
-// has no more.
-struct Window {
-    from: usize,
-    to: usize,
-    place: u64,
-    ended: bool,
-}
-
 // How far a block is printed, and where its text ends. `bad`: a bad record ended it.
 struct Progress {
     at: usize,
@@ -47,41 +42,6 @@ struct Progress {
 enum Turn {
     On(Window),
     Ended(bool),
-}
-
-// Moves what is left to the front of the block, and answers how much that is.
-fn move_down(block: &mut [u8], from: usize, to: usize) -> usize
-    requires { ⌜ (from ≤ to) × (to ≤ length (now block)) ⌝ }
-    ensures { λ r. ⌜ (from + r ≡ to) × (take r (now (block .exit)) ≡ take r (drop from (now (block .entry)))) ⌝ }
-{
-    let mut moved: usize = 0;
-    while from + moved < to {
-        block[moved] = block[from + moved];
-        moved += 1;
-    }
-    moved
-}
-
-// Reads on behind what is left, unless that has a whole record for certain. A block that is not filled has the file's end.
-fn refill(input: i32, block: &mut [u8], w: Window) -> Window
-    requires { ⌜ Within (length (now block)) w ⌝ }
-    ensures { λ r. ⌜ Refilled w (now (block .entry)) r (now (block .exit)) ⌝ }
-{
-    if w.ended {
-        return w;
-    }
-    if LONGEST <= w.to - w.from {
-        return w;
-    }
-    let left = move_down(&mut *block, w.from, w.to);
-    let got = io::read_full(input, &mut block[left..]);
-    let to = left + got;
-    Window {
-        from: 0,
-        to,
-        place: w.place,
-        ended: to < block.len(),
-    }
 }
 
 // Whether another record can be printed: none before was bad, its text has room, and it is whole, since enough bytes follow or the file
@@ -197,13 +157,13 @@ fn take_turn(
     before: Window,
 ) -> Turn
     requires { ⌜ Sound (now counts) (now money) ⌝ }
-    requires { ⌜ Within (length (now block)) before × ((length (now block) ≤ 65536) × (65536 ≤ length (now room))) ⌝ }
+    requires { ⌜ Within (length (now block)) before × ((4140 ≤ length (now block)) × ((length (now block) ≤ 65536) × (65536 ≤ length (now room)))) ⌝ }
     requires { ⌜ before .place + 65536 ≤ 18446744073709551615 ⌝ }
     ensures { λ r. ⌜ Sound (now (counts .exit)) (now (money .exit)) ⌝ }
     ensures { λ r. ⌜ GoesOn (length (now (block .entry))) (before .place) r ⌝ }
     ensures { λ r. ⌜ TurnTaken (now (counts .entry)) (now (money .entry)) before (now (block .entry)) r (now (counts .exit)) (now (money .exit)) (now (block .exit)) (now (room .exit)) ⌝ }
 {
-    let w = refill(input, &mut *block, before);
+    let w = refill(input, &mut *block, before, LONGEST);
     let to = w.to;
     let p = print_block(counts, money, &block[..to], &mut *room, w);
     let used = p.used;
@@ -222,15 +182,10 @@ fn take_turns(
     block: &mut [u8],
     room: &mut [u8],
 ) -> bool
-    requires { ⌜ Sound (now counts) (now money) × ((length (now block) ≤ 65536) × (65536 ≤ length (now room))) ⌝ }
+    requires { ⌜ Sound (now counts) (now money) × ((4140 ≤ length (now block)) × ((length (now block) ≤ 65536) × (65536 ≤ length (now room)))) ⌝ }
     ensures { λ _. ⌜ Sound (now (counts .exit)) (now (money .exit)) ⌝ }
 {
-    let mut w = Window {
-        from: 0,
-        to: 0,
-        place: 0,
-        ended: false,
-    };
+    let mut w = first_window();
     let mut turns = TURNS;
     while 0 < turns {
         let turn = take_turn(counts, money, input, output, &mut *block, &mut *room, w);

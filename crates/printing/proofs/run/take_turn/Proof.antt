@@ -4,10 +4,11 @@ use Prim.Native.Nat.{ℕ, _≤_}
 use lib.ListN.{length-take}
 use native.Mathlib.Omega.{arith}
 use borrow.Author.Needs.{needs}
-use Rattle.printing.specs.Turns.{Within, GoesOn, Reaches}
+use Rattle.window.specs.declared.Window.{Window}
+use Rattle.window.specs.Window.{Within}
+use Rattle.printing.specs.Turns.{GoesOn, Reaches}
 use Rattle.printing.specs.Blocks.{start, TurnedTo}
 use Rattle.printing.specs.BlockLaws.{turn-taken, turned-taken}
-use Rattle.printing.specs.declared.run.Window.{Window}
 use Rattle.printing.specs.declared.run.Progress.{Progress}
 use Rattle.printing.specs.declared.run.Turn.{Turn}
 use Rattle.printing.specs.declared.run.Turn.the-variants.{On, Ended}

@@ -1,11 +1,11 @@
 -- Each turn leaves a sound memory and a part of the block to go on with, and takes at most a block of the file.
-use mathlib.Core.Path.{_≡_}
+use mathlib.Core.Path.{_≡_, refl}
 use Prim.Native.Nat.{_+_, _*_, _≤_}
 use lib.ListN.{length}
 use native.Mathlib.Omega.{arith}
 use borrow.Author.Needs.{needs}
 use Rattle.standing.specs.Made.{Sound}
-use Rattle.printing.specs.Turns.{Within}
+use Rattle.window.specs.Window.{Within}
 use Rattle.printing.proofs.run.take_turns.Statement.{statement}
 use Rattle.printing.proofs.run.take_turns.Tie as tie
 
@@ -17,13 +17,18 @@ Inv-loop counts₀ money₀ input output block₀ room₀ w₀ turns₀ counts m
 abbrev μ-loop : tie.MeasureT-loop
 μ-loop counts₀ money₀ input output block₀ room₀ w₀ turns₀ counts money block room w turns = turns
 
+first-window-requires : tie.Need-first-window-requires Inv-loop μ-loop
+first-window-requires c κs = search needs
+
 loop-holds : tie.Need-loop-holds Inv-loop μ-loop
-loop-holds c = search needs
+loop-holds c =
+    let first = c .before .before .before in
+    rw (c .first-window .ensures) (first .pre .0, ((omega arith, omega arith), (refl, (refl, omega arith))))
 
 take-turn-requires : tie.Need-take-turn-requires Inv-loop μ-loop
 take-turn-requires c κs =
     let inv = c .before .before .before .before .before .loop .inv in
-    (inv .0, ((inv .1 .0, (omega arith, omega arith)), omega arith))
+    (inv .0, ((inv .1 .0, (omega arith, (omega arith, omega arith))), omega arith))
 
 enum-known-turn : tie.Need-enum-known-turn Inv-loop μ-loop
 enum-known-turn c = search needs
@@ -48,7 +53,10 @@ loop-less c = search needs
 
 loop-again : tie.Need-loop-again Inv-loop μ-loop
 loop-again c =
-    let turn = c .before .before .before .before .before .before .before .take-turn in
+    let called = c .before .before .before .before .before .before .before in
+    let loop = called .before .before .before .before .before .before in
+    let sizes = loop .before .before .before .before .pre .1 in
+    let turn = called .take-turn in
     let next = rw (c .before .turn2 .given .1) at (turn .ensures .1 .0) in
     (turn .ensures .0, ((next .0 .0, omega arith), (omega arith, (omega arith, omega arith))))
 
@@ -67,6 +75,7 @@ take-turns-spec =
     (tie.spec
     Inv-loop
     μ-loop
+    first-window-requires
     loop-holds
     take-turn-requires
     enum-known-turn

@@ -1,12 +1,39 @@
 -- What is moved goes to where it was or to an earlier place, so that what is still to be moved stands as it did.
-use mathlib.Core.Path.{_≡_, refl}
-use Prim.Native.Nat.{_+_, _-_, _≤_, _<_}
-use lib.ListN.{length, take, drop, length-set}
+use mathlib.Core.Path.{_≡_, refl, sym, ap, _∙_}
+use mathlib.Core.List.{List}
+use Prim.Native.Nat.{ℕ, _+_, _-_, _≤_, _<_}
+use lib.ListN.{length, take, drop, getD, set, length-set, length-drop}
+use lib.Seq.{take-suc, take-suc-set, drop-set-lt, drop-drop, getD-drop}
+use native.Mathlib.Numerals.{add-one}
 use native.Mathlib.Omega.{arith}
 use borrow.Author.Needs.{needs}
-use Rattle.printing.specs.BlockLaws.{moved-more, kept-more}
-use Rattle.printing.proofs.run.move_down.Statement.{statement}
-use Rattle.printing.proofs.run.move_down.Tie as tie
+use Rattle.window.proofs.move_down.Statement.{statement}
+use Rattle.window.proofs.move_down.Tie as tie
+
+-- a byte more
+module _ (from moved : ℕ) (old new : List ℕ) (inside : from + moved < length old) (same : length new ≡ length old)
+    (kept : drop moved new ≡ drop moved old) where
+  moved-byte : getD new (from + moved) 0 ≡ getD (drop from old) moved 0
+  moved-byte =
+      let turned : from + moved ≡ moved + from = omega arith in
+      ap (λ i. getD new i 0) turned
+      ∙ sym (getD-drop moved new from 0)
+      ∙ ap (λ l. getD l from 0) kept
+      ∙ getD-drop moved old from 0
+      ∙ ap (λ i. getD old i 0) (sym turned)
+      ∙ sym (getD-drop from old moved 0)
+
+  moved-more : take moved new ≡ take moved (drop from old)
+      → take (moved + 1) (set new moved (getD new (from + moved) 0)) ≡ take (moved + 1) (drop from old)
+  moved-more front =
+      let here : moved < length new = omega arith in
+      let there : moved < length (drop from old) = rw (length-drop from old) (omega arith) in
+      rw (add-one, take-suc-set new moved (getD new (from + moved) 0) here, take-suc (drop from old) moved 0 there, front, moved-byte)
+
+  kept-more : drop (moved + 1) (set new moved (getD new (from + moved) 0)) ≡ drop (moved + 1) old
+  kept-more =
+      drop-set-lt (moved + 1) new moved (getD new (from + moved) 0) (omega arith)
+      ∙ sym (drop-drop 1 moved new) ∙ ap (drop 1) kept ∙ drop-drop 1 moved old
 
 abbrev Inv-loop : tie.InvT-loop
 Inv-loop block₀ from to moved₀ block moved =
