@@ -8,8 +8,8 @@ use native.Mathlib.Omega.{arith}
 use lib.IntN.{ℤ, pos}
 use Rattle.whole.specs.Within.{zbound}
 use Rattle.whole.specs.Amounts.{Amount}
-use Rattle.fields.specs.declared.ranges.Checked.the-variants as range
-use Rattle.fields.specs.Fields.{inRange, checked, refusalOf}
+use Rattle.ranges.specs.declared.Checked.the-variants as range
+use Rattle.ranges.specs.Ranges.{inRange, checked, refusalOf}
 use Rattle.records.specs.Records.{entry}
 use Rattle.model.specs.Book.{Book}
 use Rattle.model.specs.Calls.{callOf}

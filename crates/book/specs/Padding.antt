@@ -7,7 +7,8 @@ use native.Mathlib.Omega.{arith}
 use lib.ListN.{length, getD, drop, replicate}
 use lib.Seq.{drop-at, drop-length}
 use Rattle.lists.specs.Passing.{all}
-use Rattle.fields.specs.Fields.{Quantity, withinCeilings, isZero, fieldsOf, count, allWithin}
+use Rattle.fields.specs.Fields.{Quantity, isZero, fieldsOf, count}
+use Rattle.ranges.specs.Ranges.{withinCeilings, allWithin}
 use Rattle.records.specs.Records.{entry}
 use Rattle.records.specs.RecordLaws.{Whole}
 use Rattle.records.specs.Reading.{padded}

@@ -3,7 +3,7 @@ use mathlib.Core.List.{List, [], _∷_}
 use Prim.Native.Nat.{ℕ}
 use lib.IntN.{ℤ, pos}
 use lib.ListN.{getD}
-use Rattle.fields.specs.Fold.{unfolded}
+use Rattle.folding.specs.Fold.{unfolded}
 use Rattle.holdings.specs.declared.Limits.{Limits}
 use Rattle.dealing.specs.declared.Deal.{Deal}
 

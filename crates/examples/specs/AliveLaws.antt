@@ -18,8 +18,9 @@ use Rattle.calendar.specs.Listing.{listing}
 use Rattle.calendar.specs.Choosing.{considered}
 use Rattle.calendar.specs.ChoosingLaws.{chosenAfter, computed-listing}
 use Rattle.calendar.specs.Examples.{plain}
-use Rattle.fields.specs.Fold.{folded, unfolded}
-use Rattle.fields.specs.Fields.{ceilings, kinds, allWithin}
+use Rattle.folding.specs.Fold.{folded, unfolded}
+use Rattle.fields.specs.Fields.{ceilings, kinds}
+use Rattle.ranges.specs.Ranges.{allWithin}
 use Rattle.tallies.specs.Means.{meanOf, total}
 use Rattle.tallies.specs.Tally.{tallyFrom}
 use Rattle.rates.specs.Rules.{ruleAt}

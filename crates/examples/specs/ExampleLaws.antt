@@ -21,8 +21,9 @@ use Rattle.calendar.specs.Examples as calendar
 use Rattle.calendar.specs.Examples.{plain}
 use Rattle.numbers.specs.Seven.{unbounded}
 use Rattle.numbers.specs.Examples as numbers
-use Rattle.fields.specs.Fold.{folded, unfolded}
-use Rattle.fields.specs.Fields.{ceilings, kinds, allWithin}
+use Rattle.folding.specs.Fold.{folded, unfolded}
+use Rattle.fields.specs.Fields.{ceilings, kinds}
+use Rattle.ranges.specs.Ranges.{allWithin}
 use Rattle.records.specs.Records.{reading}
 use Rattle.records.specs.Examples as records
 use Rattle.tallies.specs.Day as day

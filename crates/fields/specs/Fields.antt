@@ -1,18 +1,12 @@
--- Records: what document 01, 'Units and ceilings', 'Event records' and 'Refusal numbers', says of kinds and fields.
+-- Records: what document 01, 'Units and ceilings' and 'Event records', says of kinds and fields.
 use mathlib.Core.Bool.{Bool, true, false, _&&_, cond}
 use mathlib.Core.List.{List, [], _∷_, map}
 use Prim.Native.Nat.{ℕ, _^_}
 use lib.Dec.{eqb, leb, ltb}
-use lib.IntN.{ℤ, pos, negℤ}
 use lib.ListN.{length, getD, drop}
-use lib.Signed.{leZ}
-use Rattle.days.specs.Days.{rising}
 use Rattle.lists.specs.Passing.{all}
-use Rattle.fields.specs.declared.kinds.Count.{Count}
-use Rattle.fields.specs.declared.kinds.Count.the-variants.{Of, Unknown}
-use Rattle.fields.specs.declared.ranges.Checked.{Checked}
-use Rattle.fields.specs.declared.ranges.Checked.the-variants.{Passed, Refused}
-use Rattle.fields.specs.Fold.{unfolded}
+use Rattle.fields.specs.declared.Count.{Count}
+use Rattle.fields.specs.declared.Count.the-variants.{Of, Unknown}
 
 -- ---- what a field holds
 
@@ -45,40 +39,13 @@ ceilings side = between 0 1
 ceilings rate = signedTo 100000
 ceilings exceptionCount = between 0 400
 
--- the table's two columns, "from" and "to"
-abbrev pub lowest : Ceilings → ℤ
-lowest (between a b) = pos a
-lowest (signedTo b) = negℤ (pos b)
-
-abbrev pub highest : Ceilings → ℤ
-highest (between a b) = pos b
-highest (signedTo b) = pos b
-
 -- "Signed fields (rates, but not margin or reference rates)"
 abbrev pub hasSign : Ceilings → Bool
 hasSign (between a b) = false
 hasSign (signedTo b) = true
 
--- the number that a written one stands for: "Signed fields .. are folded first"
-abbrev pub meant : Ceilings → ℕ → ℤ
-meant (between a b) n = pos n
-meant (signedTo b) n = unfolded n
-
-abbrev pub from : Quantity → ℤ
-from q = lowest (ceilings q)
-
-abbrev pub to : Quantity → ℤ
-to q = highest (ceilings q)
-
 abbrev pub isSigned : Quantity → Bool
 isSigned q = hasSign (ceilings q)
-
-abbrev pub value : Quantity → ℕ → ℤ
-value q n = meant (ceilings q) n
-
--- "field out of range": the number meant is not from the quantity's least to its greatest
-abbrev pub withinCeilings : Quantity → ℕ → Bool
-withinCeilings q n = leZ (from q) (value q n) && leZ (value q n) (to q)
 
 -- ---- kinds
 
@@ -130,23 +97,3 @@ isZero n = eqb n 0
 abbrev pub shaped : ℕ → List ℕ → ℕ → Bool
 shaped kind fields exceptions =
     known kind && (all isZero (drop (count kind) fields) && (leb (announced kind fields) 400 && eqb exceptions (announced kind fields)))
-
--- each field within its quantity's ceilings
-unfoldable pub allWithin : List Quantity → List ℕ → Bool
-allWithin [] fields = true
-allWithin (q ∷ more) [] = false
-allWithin (q ∷ more) (n ∷ fields) = withinCeilings q n && allWithin more fields
-
--- "All fields are range-checked, also those not used"; "strictly rising"
-abbrev pub inRange : ℕ → List ℕ → List ℕ → Bool
-inRange kind fields exceptions =
-    shaped kind fields (length exceptions) && (allWithin (fieldsOf kind) fields && (all (withinCeilings day) exceptions && rising exceptions))
-
--- Number 2 is "field out of range, or exceptions not rising"
-abbrev pub checked : ℕ → List ℕ → List ℕ → Checked
-checked kind fields exceptions = cond (inRange kind fields exceptions) Passed (Refused 2)
-
--- the refusal's number in document 01, 0 for none
-abbrev pub refusalOf : Checked → ℕ
-refusalOf Passed = 0
-refusalOf (Refused n) = n

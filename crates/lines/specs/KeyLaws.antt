@@ -10,7 +10,7 @@ use lib.ListN.{length}
 use Rattle.lists.specs.Has.{has}
 use Rattle.lists.specs.HasLaws.{byTest, clash, when-true, or-skip, has-append, has-one}
 use Rattle.fields.specs.Fields.{account, ceilings, kinds}
-use Rattle.fields.specs.FieldLaws.{InRange, range-tells, refusal-number, within-ends}
+use Rattle.ranges.specs.RangeLaws.{InRange, range-tells, refusal-number, within-ends}
 use Rattle.records.specs.Records.{Entry, entry}
 use Rattle.rates.specs.declared.Settled.{Settled}
 use Rattle.model.specs.Book.{Book, new, isMember}

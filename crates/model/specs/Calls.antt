@@ -4,7 +4,7 @@ use mathlib.Core.List.{List, [], _∷_}
 use Prim.Native.Nat.{ℕ}
 use lib.IntN.{ℤ, pos}
 use lib.ListN.{getD}
-use Rattle.fields.specs.Fold.{unfolded}
+use Rattle.folding.specs.Fold.{unfolded}
 use Rattle.records.specs.Records.{Entry}
 use Rattle.holdings.specs.declared.Limits.{Limits}
 use Rattle.model.specs.Book.{Settings}

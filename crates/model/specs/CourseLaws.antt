@@ -9,8 +9,9 @@ use Rattle.lists.specs.Passing.{all}
 use Rattle.days.specs.Days.{rising, isWeekend, isException, isWorking, firstWorking, noLongBreak, accepted}
 use Rattle.calendar.specs.Listing.{listing}
 use Rattle.calendar.specs.Examples.{plain}
-use Rattle.fields.specs.Fields.{ceilings, kinds, allWithin}
-use Rattle.fields.specs.FoldLaws.{unfolded-folded}
+use Rattle.fields.specs.Fields.{ceilings, kinds}
+use Rattle.ranges.specs.Ranges.{allWithin}
+use Rattle.folding.specs.FoldLaws.{unfolded-folded}
 use Rattle.records.specs.Records.{Entry}
 use Rattle.model.specs.Book.{Book, new, working}
 use Rattle.model.specs.Calls.{Opening, callOf, opening}

@@ -3,7 +3,7 @@ use mathlib.Core.List.{[], _∷_, _++_}
 use Prim.Native.Nat.{ℕ}
 use lib.IntN.{ℤ}
 use lib.ListN.{replicate}
-use Rattle.fields.specs.Fold.{folded}
+use Rattle.folding.specs.Fold.{folded}
 use Rattle.records.specs.Records.{Entry, entry}
 
 abbrev pub starts : ℕ → ℕ → Entry

@@ -12,10 +12,12 @@ use Rattle.whole.specs.Parts.{parts₁, ring}
 use Rattle.whole.specs.Within.{Within, Each, zbound}
 use Rattle.whole.specs.Amounts.{Amount, amount-pos}
 use Rattle.days.specs.Days.{rising}
-use Rattle.fields.specs.Fold.{unfolded}
-use Rattle.fields.specs.Fields.{Quantity, lots, marginRate, referenceRate, clearingLimit, tolerance, specialMargin, amount, multiplier, day, side, rate, ceilings, withinCeilings, kinds, fieldsOf, count, inRange}
-use Rattle.fields.specs.Cells.{greatest}
-use Rattle.fields.specs.FieldLaws.{Shaped, InRange, range-tells, refusal-number, within-values, within-ends, shape-tells}
+use Rattle.folding.specs.Fold.{unfolded}
+use Rattle.fields.specs.Fields.{Quantity, lots, marginRate, referenceRate, clearingLimit, tolerance, specialMargin, amount, multiplier, day, side, rate, ceilings, kinds, fieldsOf, count}
+use Rattle.ranges.specs.Ranges.{withinCeilings, inRange}
+use Rattle.ranges.specs.Cells.{greatest}
+use Rattle.fields.specs.FieldLaws.{Shaped, shape-tells}
+use Rattle.ranges.specs.RangeLaws.{InRange, range-tells, refusal-number, within-values, within-ends}
 use Rattle.records.specs.Records.{Entry, entry}
 use Rattle.holdings.specs.Bounds.{Granted}
 use Rattle.model.specs.Book.{Settings}

@@ -6,7 +6,7 @@ use lib.Dec.{eqb, leb, ltb}
 use lib.ListN.{length}
 use Rattle.days.specs.Days.{accepted, nextWorking, isOn, isWorking}
 use Rattle.calendar.specs.Listing.{listing}
-use Rattle.fields.specs.Fields as fields
+use Rattle.ranges.specs.Ranges as ranges
 use Rattle.records.specs.Records.{Entry}
 use Rattle.tallies.specs.Day.{clock, inLastHour}
 use Rattle.tallies.specs.Tally.{sideIn}
@@ -132,7 +132,7 @@ later b unknown = []
 
 -- "2 | field out of range, or exceptions not rising"
 abbrev pub ranged : Entry → ℕ
-ranged e = fields.refusalOf (fields.checked (e .kind) (e .fields) (e .exceptions))
+ranged e = ranges.refusalOf (ranges.checked (e .kind) (e .fields) (e .exceptions))
 
 abbrev pub tests : Book → Call → List ℕ
 tests b c = needs (allowed (b .today .point) c) 3 ∷ later b c

@@ -12,17 +12,17 @@ use crate::text::put_next;
 use crate::text::put_number;
 use crate::text::put_signed;
 use crate::text::put_word;
-use fields::Checked;
 use fields::Count;
 use fields::WIDTH;
 use numbers::End;
+use ranges::Checked;
 use records::Answer;
 use records::Reading;
 
 // Puts a space and a field of a kind, in the form that the field has.
 fn put_field(text: &mut [u8; 65536], at: usize, kind: u64, field: usize, value: u64) -> usize {
     if fields::is_signed(kind, field) {
-        put_signed(text, at, fields::unfold(value))
+        put_signed(text, at, folding::unfold(value))
     } else {
         put_next(text, at, value)
     }
@@ -83,7 +83,7 @@ fn put_record(
     let checked = put_checked(
         &mut *text,
         listed,
-        fields::in_range(kind, values, exceptions),
+        ranges::in_range(kind, values, exceptions),
     );
     let written = put_written(&mut *text, checked, record, kind, values, exceptions);
     put_word(text, written, b"\n")

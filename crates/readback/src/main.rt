@@ -1,6 +1,6 @@
 // Shows reading and writing of records at work: reads tests on standard input, one to a line, and prints what the crates
-// `records` and `fields` make of each. reference/records.py makes the same lines from document 01, and a run is compared
-// with them.
+// `records`, `fields` and `ranges` make of each. reference/records.py makes the same lines from document 01, and a run is
+// compared with them.
 mod alike;
 mod files;
 mod lines;

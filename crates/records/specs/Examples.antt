@@ -5,7 +5,7 @@ use lib.IntN.{pos}
 use Rattle.numbers.specs.Seven.{groups, unbounded}
 use Rattle.numbers.specs.Several.{writeOf, many}
 use Rattle.fields.specs.Fields.{kinds}
-use Rattle.fields.specs.Fold.{folded}
+use Rattle.folding.specs.Fold.{folded}
 use Rattle.records.specs.Records.{entry, writing, unread, parsed, reading}
 
 -- "The trade above is 08 98 8B 02 88 12 C1 84 3D C2 84 3D 04 F8 E8 02."

@@ -1,7 +1,7 @@
 -- A record out of range is refused; one in range goes to its group, whose answer is the book's.
 use mathlib.Core.Path.{_≡_, sym, ap, _∙_, subst}
 use borrow.Author.Needs.{needs}
-use Rattle.fields.specs.Fields.{refusalOf}
+use Rattle.ranges.specs.Ranges.{refusalOf}
 use Rattle.records.specs.Records.{entry}
 use Rattle.model.specs.Refusals.{ranged}
 use Rattle.model.specs.RangeLaws.{Ranged, ranges}

@@ -1,0 +1,4 @@
+pub mod Ranges
+pub mod Cells
+pub mod RangeLaws
+pub mod CellLaws
