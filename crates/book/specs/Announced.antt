@@ -4,7 +4,7 @@ use mathlib.Core.List.{List}
 use Prim.Native.Nat.{ℕ}
 use lib.IntN.{ℤ}
 use lib.ListN.{length}
-use Rattle.numbers.specs.Place.{storedFrom}
+use Rattle.decoding.specs.Place.{storedFrom}
 use Rattle.records.specs.Records.{entry}
 use Rattle.book.specs.declared.calls.Answer.{Answer}
 use Rattle.book.specs.Called.{Called}

@@ -8,8 +8,8 @@ use lib.ListN.{length, drop, drop-of-length-le}
 use borrow.Author.Tests.{le-ltb}
 use Rattle.numbers.specs.Below.{Small}
 use Rattle.numbers.specs.Seven.{unbounded}
-use Rattle.numbers.specs.Place.{storedFrom}
-use Rattle.numbers.specs.PlaceLaws.{end-here}
+use Rattle.decoding.specs.Place.{storedFrom}
+use Rattle.decoding.specs.PlaceLaws.{end-here}
 use Rattle.fields.specs.Fields.{announced}
 use Rattle.records.specs.declared.Answer.the-variants as records
 use Rattle.records.specs.declared.Reading.{Reading}

@@ -1,6 +1,6 @@
 // Bytes on a book: a record at a place, and a whole file.
 ghost use Prim.Native.Nat.{_≤_};
-ghost use Rattle.numbers.specs.Place.{storedFrom};
+ghost use Rattle.decoding.specs.Place.{storedFrom};
 ghost use Rattle.records.specs.Records.{entry};
 ghost use Rattle.standing.specs.Made.{Sound};
 ghost use Rattle.book.specs.Announced.{CalledFrom};
@@ -9,11 +9,11 @@ ghost use Rattle.book.specs.Feeding.{FedAt, Ran};
 use crate::calls::Answer;
 use crate::calls::call;
 use crate::calls::new_book;
+use decoding::read_numbers;
 use fields::WIDTH;
 use fields::announced;
 use memory::COUNTS;
 use memory::MONEY;
-use numbers::read_numbers;
 use records::read_record;
 
 // What bytes at a place answer: the place after the record and what the call answered, or refusal 1 with the record's place.

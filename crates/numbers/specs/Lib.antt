@@ -3,9 +3,4 @@ pub mod Seven
 pub mod SevenLaws
 pub mod Several
 pub mod SeveralLaws
-pub mod Place
-pub mod PlaceLaws
-pub mod Groups
-pub mod Put
-pub mod Sizes
 pub mod Examples

@@ -8,7 +8,7 @@ use lib.Seq.{take-append-le, take-append-seam}
 use borrow.Author.Tests.{ltb-true}
 use Rattle.numbers.specs.Below.{Small}
 use Rattle.numbers.specs.SevenLaws.{groups-last}
-use Rattle.numbers.specs.Sizes.{size-most}
+use Rattle.encoding.specs.Sizes.{size-most}
 use Rattle.fields.specs.Fields.{kinds}
 use Rattle.fields.specs.FieldLaws.{counts-most}
 use Rattle.records.specs.Records.{Entry, writing, Parsed, unread, parsed, reading}

@@ -12,9 +12,9 @@ use crate::text::put_next;
 use crate::text::put_number;
 use crate::text::put_signed;
 use crate::text::put_word;
+use decoding::End;
 use fields::Count;
 use fields::WIDTH;
-use numbers::End;
 use ranges::Checked;
 use records::Answer;
 use records::Reading;
@@ -101,7 +101,7 @@ fn put_exceptions(
 ) -> usize
     requires { ⌜ (from ≤ end) × (end ≤ length (now bytes)) ⌝ }
 {
-    let End::Next(last) = numbers::read_numbers(bytes, reading.more, &mut *list) else {
+    let End::Next(last) = decoding::read_numbers(bytes, reading.more, &mut *list) else {
         return put_word(text, at, b"differs\n");
     };
     if last != end {

@@ -13,8 +13,8 @@ use Rattle.numbers.specs.Seven.{none, unbounded, encode, decode}
 use Rattle.numbers.specs.SevenLaws.{groups-some}
 use Rattle.numbers.specs.Several.{Some, nothing, some, onSome, writeOf, many}
 use Rattle.numbers.specs.SeveralLaws.{many-write}
-use Rattle.numbers.specs.Place.{ended}
-use Rattle.numbers.specs.PlaceLaws.{Moved, moved-size, end-here}
+use Rattle.decoding.specs.Place.{ended}
+use Rattle.decoding.specs.PlaceLaws.{Moved, moved-size, end-here}
 use Rattle.fields.specs.Fields.{known, count, announced}
 use Rattle.records.specs.declared.Answer.{Answer}
 use Rattle.records.specs.declared.Answer.the-variants.{Next, Malformed}

@@ -4,7 +4,7 @@ use mathlib.Core.List.{List}
 use Prim.Native.Nat.{ℕ, _-_}
 use lib.Dec.{ltb}
 use lib.ListN.{length, drop, replicate}
-use Rattle.numbers.specs.declared.End.the-variants.{Next, Short}
+use Rattle.decoding.specs.declared.End.the-variants.{Next, Short}
 use Rattle.numbers.specs.Several.{Some, nothing, some, onSome, many}
 use Rattle.fields.specs.Fields.{announced}
 use Rattle.records.specs.declared.Fields.{Fields}

@@ -14,8 +14,8 @@ use Rattle.lists.specs.Passing.{all}
 use Rattle.numbers.specs.Seven.{encode}
 use Rattle.numbers.specs.SevenLaws.{groups-most}
 use Rattle.numbers.specs.Several.{some, writeOf, many}
-use Rattle.numbers.specs.Sizes.{size-most}
-use Rattle.numbers.specs.Put.{put, put-append}
+use Rattle.encoding.specs.Sizes.{size-most}
+use Rattle.encoding.specs.Put.{put, put-append}
 use Rattle.fields.specs.Fields.{kinds, known, count, announced, isZero, shaped}
 use Rattle.fields.specs.FieldLaws.{is-known, counts-most, shape-tells}
 use Rattle.records.specs.declared.Written.the-variants.{Done, Malformed, NoRoom}

@@ -1,6 +1,6 @@
 // Records as bytes: a record at a place of a file, the record at the start of what is left, and a record put into lent
 // room. A record is its kind and its fields. The exceptions of a start stay in the bytes: whoever needs them reads them
-// from the place that the answer names, by `numbers::read_numbers`.
+// from the place that the answer names, by `decoding::read_numbers`.
 ghost use mathlib.Core.Path.{_≡_};
 ghost use Prim.Native.Nat.{_≤_};
 ghost use lib.ListN.{length, drop};
@@ -8,20 +8,20 @@ ghost use Rattle.numbers.specs.Several.{many};
 ghost use Rattle.records.specs.Reading.{malformedAt, readingAt};
 ghost use Rattle.records.specs.Steps.{filled, afterFields};
 ghost use Rattle.records.specs.Writing.{Out, writtenIn};
+use decoding::End;
+use decoding::Number;
+use decoding::read_number;
+use decoding::skip_numbers;
+use encoding::number_size;
+use encoding::numbers_size;
+use encoding::write_number;
+use encoding::write_numbers;
 use fields::Count;
 use fields::EXCEPTIONS;
 use fields::WIDTH;
 use fields::announced;
 use fields::count_of;
 use fields::is_shaped;
-use numbers::End;
-use numbers::Number;
-use numbers::number_size;
-use numbers::numbers_size;
-use numbers::read_number;
-use numbers::skip_numbers;
-use numbers::write_number;
-use numbers::write_numbers;
 
 // Some fields, with zeros after them, and where they end.
 struct Fields {

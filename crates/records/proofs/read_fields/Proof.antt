@@ -6,7 +6,7 @@ use native.Mathlib.Omega.{arith}
 use lib.ListN.{length, drop, replicate, length-append}
 use borrow.Author.Needs.{needs}
 use Rattle.numbers.specs.Several.{many}
-use Rattle.numbers.specs.PlaceLaws.{value-is, bad-is, many-bad, joined, joined-nil, joined-step, end-here}
+use Rattle.decoding.specs.PlaceLaws.{value-is, bad-is, many-bad, joined, joined-nil, joined-step, end-here}
 use Rattle.records.specs.Steps.{filled}
 use Rattle.records.specs.ReadingLaws.{store}
 use Rattle.records.proofs.read_fields.Statement.{statement}

@@ -7,8 +7,8 @@ use lib.ListN.{drop}
 use borrow.Author.Needs.{needs}
 use Rattle.numbers.specs.Below.{Small}
 use Rattle.numbers.specs.Several.{many, some}
-use Rattle.numbers.specs.Place.{ended}
-use Rattle.numbers.specs.PlaceLaws.{Moved, value-is, bad-is, Ran, ran, short}
+use Rattle.decoding.specs.Place.{ended}
+use Rattle.decoding.specs.PlaceLaws.{Moved, value-is, bad-is, Ran, ran, short}
 use Rattle.fields.specs.Fields.{known, count}
 use Rattle.fields.specs.FieldLaws.{is-known, is-unknown, counts-most, counted, uncounted}
 use Rattle.records.specs.Reading.{padded}

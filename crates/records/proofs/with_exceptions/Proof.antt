@@ -4,7 +4,7 @@ use Prim.Native.Nat.{_≤_, _<_}
 use lib.ListN.{drop}
 use borrow.Author.Needs.{needs}
 use Rattle.numbers.specs.Several.{many}
-use Rattle.numbers.specs.PlaceLaws.{ran, short}
+use Rattle.decoding.specs.PlaceLaws.{ran, short}
 use Rattle.fields.specs.Fields.{announced}
 use Rattle.records.specs.ReadingLaws.{too-many, no-exceptions, finished}
 use Rattle.records.proofs.with_exceptions.Statement.{statement}

@@ -4,12 +4,12 @@ use mathlib.Core.List.{List}
 use Prim.Native.Nat.{ℕ, _-_}
 use lib.Dec.{ltb}
 use lib.ListN.{length, drop}
-use Rattle.numbers.specs.declared.Number.{Number}
-use Rattle.numbers.specs.declared.Number.the-variants.{Value, Bad}
-use Rattle.numbers.specs.declared.End.{End}
-use Rattle.numbers.specs.declared.End.the-variants.{Next, Short}
+use Rattle.decoding.specs.declared.Number.{Number}
+use Rattle.decoding.specs.declared.Number.the-variants.{Value, Bad}
+use Rattle.decoding.specs.declared.End.{End}
+use Rattle.decoding.specs.declared.End.the-variants.{Next, Short}
 use Rattle.numbers.specs.Seven.{Got, none, got, decode}
 use Rattle.numbers.specs.Several.{Some, nothing, some, many}
 
 -- what was found in the bytes s, with the place after it
 abbrev pub placed : List ℕ → Got → Number

@@ -3,11 +3,11 @@ use lib.ListN.{length, length-set}
 use native.Mathlib.Omega.{arith}
 use mathlib.Core.Path.{_≡_, refl, sym, ap, _∙_}
 use Prim.Native.Nat.{ℕ, suc, _+_, _/_, _%_, _^_, _<_}
 use Rattle.numbers.specs.Seven.{groups, encode}
 use Rattle.numbers.specs.SevenLaws.{left, groups-some, groups-last}
-use Rattle.numbers.specs.Put.{put, put-one, put-cons}
-use Rattle.numbers.proofs.write_number.Statement.{statement}
-use Rattle.numbers.proofs.write_number.Tie as tie
+use Rattle.encoding.specs.Put.{put, put-one, put-cons}
+use Rattle.encoding.proofs.write_number.Statement.{statement}
+use Rattle.encoding.proofs.write_number.Tie as tie
 
 abbrev Inv-loop : tie.InvT-loop
 Inv-loop room₀ at n rest₀ i₀ room rest i =

@@ -6,13 +6,13 @@ use native.Mathlib.Omega.{arith}
 use lib.ListN.{length, drop, length-append, length-set, drop-of-length-le}
 use borrow.Author.Needs.{needs}
 use borrow.Author.Tests.{lt-ltb, le-ltb}
-use Rattle.numbers.specs.declared.End.the-variants.{Next}
+use Rattle.decoding.specs.declared.End.the-variants.{Next}
 use Rattle.numbers.specs.Several.{nothing, some, many}
-use Rattle.numbers.specs.Place.{stored, storedFrom, ended}
+use Rattle.decoding.specs.Place.{stored, storedFrom, ended}
 use Rattle.numbers.specs.SeveralLaws.{not-some}
-use Rattle.numbers.specs.PlaceLaws.{Ran, ran, short, value-is, bad-is, many-bad, joined, joined-nil, joined-step, stored-end, store-next}
-use Rattle.numbers.proofs.read_numbers.Statement.{statement}
-use Rattle.numbers.proofs.read_numbers.Tie as tie
+use Rattle.decoding.specs.PlaceLaws.{Ran, ran, short, value-is, bad-is, many-bad, joined, joined-nil, joined-step, stored-end, store-next}
+use Rattle.decoding.proofs.read_numbers.Statement.{statement}
+use Rattle.decoding.proofs.read_numbers.Tie as tie
 
 abbrev Inv-loop : tie.InvT-loop
 Inv-loop bytes at room₀ last from₀ i₀ room from i =

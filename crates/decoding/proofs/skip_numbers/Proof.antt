@@ -4,11 +4,11 @@ use lib.ListN.{length, drop}
 use native.Mathlib.Omega.{arith}
 use mathlib.Core.Path.{_≡_, refl, sym, ap, _∙_}
 use Prim.Native.Nat.{_≤_}
 use Rattle.numbers.specs.Several.{many}
-use Rattle.numbers.specs.Place.{ended}
-use Rattle.numbers.specs.PlaceLaws.{value-is, bad-is, many-bad, ended-step, ended-none}
-use Rattle.numbers.proofs.skip_numbers.Statement.{statement}
-use Rattle.numbers.proofs.skip_numbers.Tie as tie
+use Rattle.decoding.specs.Place.{ended}
+use Rattle.decoding.specs.PlaceLaws.{value-is, bad-is, many-bad, ended-step, ended-none}
+use Rattle.decoding.proofs.skip_numbers.Statement.{statement}
+use Rattle.decoding.proofs.skip_numbers.Tie as tie
 
 abbrev Inv-loop : tie.InvT-loop
 Inv-loop bytes at n left₀ place₀ left place =

@@ -5,10 +5,10 @@ use lib.Seq.{take-all}
 use native.Mathlib.Omega.{arith}
 use mathlib.Core.Path.{_≡_, refl, ap, _∙_}
 use Prim.Native.Nat.{_+_, _-_, _≤_}
 use Rattle.numbers.specs.Several.{writeOf}
-use Rattle.numbers.specs.Sizes.{size-step, size-part, size-most}
-use Rattle.numbers.proofs.numbers_size.Statement.{statement}
-use Rattle.numbers.proofs.numbers_size.Tie as tie
+use Rattle.encoding.specs.Sizes.{size-step, size-part, size-most}
+use Rattle.encoding.proofs.numbers_size.Statement.{statement}
+use Rattle.encoding.proofs.numbers_size.Tie as tie
 
 abbrev Inv-loop : tie.InvT-loop
 Inv-loop list size₀ counted₀ size counted =

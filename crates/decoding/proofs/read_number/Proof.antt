@@ -3,11 +3,11 @@ use mathlib.Core.Path.{_≡_, sym, ap, _∙_}
 use Prim.Native.Nat.{_+_, _*_, _-_, _^_, _≤_, _<_}
 use native.Mathlib.Omega.{arith}
 use lib.ListN.{length, getD, drop}
 use Rattle.numbers.specs.Seven.{unbounded, decode}
-use Rattle.numbers.specs.Place.{placed}
-use Rattle.numbers.specs.Groups.{onward, at-end, at-one, at-more, step-end, step-more, step-over, step-last, scale-top, scale-is, scale-short, scale-more, sum-under, sum-below}
-use Rattle.numbers.proofs.read_number.Statement.{statement}
-use Rattle.numbers.proofs.read_number.Tie as tie
+use Rattle.decoding.specs.Place.{placed}
+use Rattle.decoding.specs.Groups.{onward, at-end, at-one, at-more, step-end, step-more, step-over, step-last, scale-top, scale-is, scale-short, scale-more, sum-under, sum-below}
+use Rattle.decoding.proofs.read_number.Statement.{statement}
+use Rattle.decoding.proofs.read_number.Tie as tie
 
 abbrev Inv-loop : tie.InvT-loop
 Inv-loop bytes at first tenth value₀ scale₀ i₀ value scale i =

@@ -3,10 +3,10 @@ use lib.ListN.{length}
 use native.Mathlib.Omega.{arith}
 use mathlib.Core.Path.{_≡_, ap}
 use Prim.Native.Nat.{ℕ, suc, _+_, _^_, _<_}
 use Rattle.numbers.specs.Seven.{groups, encode}
 use Rattle.numbers.specs.SevenLaws.{left, groups-most, groups-last}
-use Rattle.numbers.proofs.number_size.Statement.{statement}
-use Rattle.numbers.proofs.number_size.Tie as tie
+use Rattle.encoding.proofs.number_size.Statement.{statement}
+use Rattle.encoding.proofs.number_size.Tie as tie
 
 abbrev Inv-loop : tie.InvT-loop
 Inv-loop n left₀ count₀ left count =

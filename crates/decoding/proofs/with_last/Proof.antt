@@ -3,9 +3,9 @@ use mathlib.Core.Path.{_≡_}
 use Prim.Native.Nat.{_+_, _*_, _^_, _<_}
 use native.Mathlib.Omega.{arith}
 use borrow.Author.Tests.{lt-ltb, le-ltb}
-use Rattle.numbers.specs.Groups.{scale-under, sum-under, sum-over}
-use Rattle.numbers.proofs.with_last.Statement.{statement}
-use Rattle.numbers.proofs.with_last.Tie as tie
+use Rattle.decoding.specs.Groups.{scale-under, sum-under, sum-over}
+use Rattle.decoding.proofs.with_last.Statement.{statement}
+use Rattle.decoding.proofs.with_last.Tie as tie
 
 returns : tie.Need-returns
 returns c = rw (le-ltb 0 (c .before .args .group) (omega arith))

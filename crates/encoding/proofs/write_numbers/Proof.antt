@@ -5,12 +5,12 @@ use native.Mathlib.Omega.{arith}
 use mathlib.Core.List.{List}
 use mathlib.Core.Path.{_≡_, refl, sym, ap, ap₂, _∙_}
 use Prim.Native.Nat.{ℕ, _+_, _-_, _≤_}
-use Rattle.numbers.specs.Sizes.{size-step, size-part, write-step}
-use Rattle.numbers.specs.Put.{put, put-none, put-append}
+use Rattle.encoding.specs.Sizes.{size-step, size-part, write-step}
+use Rattle.encoding.specs.Put.{put, put-none, put-append}
 use Rattle.numbers.specs.Several.{writeOf}
 use Rattle.numbers.specs.Seven.{encode}
-use Rattle.numbers.proofs.write_numbers.Statement.{statement}
-use Rattle.numbers.proofs.write_numbers.Tie as tie
+use Rattle.encoding.proofs.write_numbers.Statement.{statement}
+use Rattle.encoding.proofs.write_numbers.Tie as tie
 
 abbrev Inv-loop : tie.InvT-loop
 Inv-loop room₀ at list place₀ written₀ room place written =

@@ -7,14 +7,14 @@ use native.Mathlib.Decide.{decLt}
 use native.Mathlib.Omega.{arith}
 use lib.ListN.{length, getD, drop, set, length-append, length-drop}
 use lib.Seq.{drop-drop, drop-append-seam, drop-cons, set-at, append-snoc}
 use Rattle.numbers.specs.Below.{Small, below-drop}
-use Rattle.numbers.specs.declared.Number.the-variants.{Value, Bad}
-use Rattle.numbers.specs.declared.End.the-variants.{Next, Short}
+use Rattle.decoding.specs.declared.Number.the-variants.{Value, Bad}
+use Rattle.decoding.specs.declared.End.the-variants.{Next, Short}
 use Rattle.numbers.specs.Seven.{Got, none, got, unbounded, encode, decode}
 use Rattle.numbers.specs.SevenLaws.{decode-only, unbounded-last, unbounded-more, before-got, bounded-got}
 use Rattle.numbers.specs.Several.{Some, nothing, some, onSome, writeOf, many}
 use Rattle.numbers.specs.SeveralLaws.{many-only}
-use Rattle.numbers.specs.Place.{placed, numberAt, ended, stored}
+use Rattle.decoding.specs.Place.{placed, numberAt, ended, stored}
 
 -- ---- one number
 -- what is left after a number is a part of the bytes before it

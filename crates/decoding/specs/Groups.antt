@@ -11,11 +11,11 @@ use lib.Dec.{ltb, lit<}
 use lib.ListN.{length, getD, drop, drop-of-length-le, length-drop}
 use lib.Seq.{drop-cons}
 use borrow.Author.Tests.{lt-ltb, le-ltb}
-use Rattle.numbers.specs.declared.Number.{Number}
-use Rattle.numbers.specs.declared.Number.the-variants.{Value, Bad}
+use Rattle.decoding.specs.declared.Number.{Number}
+use Rattle.decoding.specs.declared.Number.the-variants.{Value, Bad}
 use Rattle.numbers.specs.Seven.{Got, none, got, before, unbounded, bounded, decode}
 use Rattle.numbers.specs.SevenLaws.{unbounded-last, unbounded-more}
-use Rattle.numbers.specs.Place.{placed, numberAt}
+use Rattle.decoding.specs.Place.{placed, numberAt}
 
 -- what one unit of a group counts, from the second group to the tenth
 abbrev pub Scale : ℕ → Type 0
