@@ -9,8 +9,8 @@ use crate::text::put_field;
 use crate::text::put_listing;
 use crate::text::put_word;
 use crate::text::write_line;
-use calendar::Month;
 use libc::STDOUT_FILENO;
+use months::Month;
 
 // The line that a list begins with.
 fn print_heading(k: u64) -> bool {

@@ -9,7 +9,7 @@ use Rattle.days.specs.declared.Day.{Day}
 use Rattle.calendar.specs.declared.listing.Chosen.{Chosen}
 use Rattle.calendar.specs.declared.listing.Listing.{Listing}
 use Rattle.days.specs.Days.{isNoDay}
-use Rattle.calendar.specs.Months.{isQuarterly, codeOf}
+use Rattle.months.specs.Months.{isQuarterly, codeOf}
 use Rattle.calendar.specs.Listing.{isAfter, places, earlier, isListed, settles, unknown}
 
 abbrev pub noneChosen : Chosen

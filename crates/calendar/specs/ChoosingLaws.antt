@@ -14,8 +14,8 @@ use Rattle.lists.specs.Passing.{passing, all, passing-zero, passing-hit, passin
 use Rattle.lists.specs.Rows.{map-append}
 use Rattle.calendar.specs.declared.listing.Chosen.{Chosen}
 use Rattle.days.specs.Days.{isNoDay}
-use Rattle.calendar.specs.Months.{isQuarterly, codeOf, settlementDay}
-use Rattle.calendar.specs.MonthLaws.{settle-past}
+use Rattle.months.specs.Months.{isQuarterly, codeOf, settlementDay}
+use Rattle.months.specs.MonthLaws.{settle-past}
 use Rattle.calendar.specs.Listing.{isAfter, settlesAfter, isCandidate, places, earlier, isListed, settles, listedMonths, unknown, listing}
 use Rattle.calendar.specs.Choosing.{noneChosen, hasPlace, placed, considered, answered, filled, chosenBefore}
 

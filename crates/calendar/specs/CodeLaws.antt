@@ -16,9 +16,9 @@ use Rattle.days.specs.declared.Day.{Day}
 use Rattle.days.specs.declared.Day.the-variants.{On, NoDay}
 use Rattle.days.specs.Days.{rising, risingAfter, nextWorking, accepted, isOn, isNoDay}
 use Rattle.days.specs.DayLaws.{First, Last, first-of, last-of}
-use Rattle.calendar.specs.Months.{codeOf, settlementDay, lastTradingDay, ofMonth, lastTradingOf}
+use Rattle.months.specs.Months.{codeOf, settlementDay, lastTradingDay, ofMonth, lastTradingOf}
 use Rattle.calendar.specs.Listing.{settlesAfter, isListed, settles, listedMonths, unknown, listing}
-use Rattle.calendar.specs.MonthLaws.{codes-rise, month-of, settles-from, settles-first, settles-rise, trades-before}
+use Rattle.months.specs.MonthLaws.{codes-rise, month-of, settles-from, settles-first, settles-rise, trades-before}
 use Rattle.calendar.specs.ListingLaws.{listed-after, listed-trades, stays-listed, six-listed, listed-rise, known-settles}
 
 -- ---- a rising list has no number twice

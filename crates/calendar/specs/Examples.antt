@@ -6,7 +6,7 @@ use Prim.Native.Nat.{ℕ}
 use native.Mathlib.Omega.{arith}
 use Rattle.days.specs.declared.Day.the-variants.{On}
 use Rattle.days.specs.Days.{isWeekend, isException, isWorking, firstWorking, lastWorking}
-use Rattle.calendar.specs.Months.{isCode, monthOf, codeOf, monthLength, firstDay, thirdWednesday, settlementDay, lastTradingDay, settlementOf, lastTradingOf}
+use Rattle.months.specs.Months.{isCode, monthOf, codeOf, monthLength, firstDay, thirdWednesday, settlementDay, lastTradingDay, settlementOf, lastTradingOf}
 use Rattle.calendar.specs.Listing.{listing}
 use Rattle.calendar.specs.Choosing.{considered}
 use Rattle.calendar.specs.ChoosingLaws.{chosenAfter, computed-listing}

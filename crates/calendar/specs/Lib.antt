@@ -1,5 +1,3 @@
-pub mod Months
-pub mod MonthLaws
 pub mod Listing
 pub mod Choosing
 pub mod ChoosingLaws

@@ -9,7 +9,7 @@ use Rattle.days.specs.declared.Day.{Day}
 use Rattle.days.specs.declared.Day.the-variants.{On, NoDay}
 use Rattle.calendar.specs.declared.listing.Listing.{Listing}
 use Rattle.days.specs.Days.{isNoDay}
-use Rattle.calendar.specs.Months.{months, january2020, isQuarterly, codeOf, settlementDay}
+use Rattle.months.specs.Months.{months, january2020, isQuarterly, codeOf, settlementDay}
 
 -- "with D after t .. a D past the calendar's end counts as after every t"
 abbrev pub isAfter : ℕ → Day → Bool

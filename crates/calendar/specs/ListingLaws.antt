@@ -13,8 +13,8 @@ use Rattle.days.specs.declared.Day.{Day}
 use Rattle.days.specs.declared.Day.the-variants.{On, NoDay}
 use Rattle.days.specs.Days.{rising, risingAfter}
 use Rattle.days.specs.DayLaws.{last-finds}
-use Rattle.calendar.specs.Months.{isQuarterly, codeOf, settlementDay, lastTradingDay}
-use Rattle.calendar.specs.MonthLaws.{codes-rise, trades-before}
+use Rattle.months.specs.Months.{isQuarterly, codeOf, settlementDay, lastTradingDay}
+use Rattle.months.specs.MonthLaws.{codes-rise, trades-before}
 use Rattle.calendar.specs.Listing.{isAfter, settlesAfter, isCandidate, places, earlier, isListed, settles, listedMonths, unknown, listing}
 use Rattle.calendar.specs.ChoosingLaws.{listed-count, past-candidate}
 

@@ -5,8 +5,8 @@ ghost use Prim.Native.Nat.{_+_, _≤_, _<_};
 ghost use Rattle.days.specs.Days.{rising, isWorking, isNoDay};
 ghost use Rattle.calendar.specs.Listing.{isAfter, listing, unknown};
 ghost use Rattle.calendar.specs.Choosing.{noneChosen, hasPlace, placed, considered, answered};
-use crate::month::Month;
 use days::Day;
+use months::Month;
 
 // The six codes in rising order. `known` is false where a listed month's settlement day is not in the calendar; then
 // all codes are 0.

@@ -18,7 +18,7 @@ use Rattle.lists.specs.Those.{those}
 use Rattle.lists.specs.Zipped.{zipped, zipped-length, zipped-at}
 use Rattle.whole.specs.Sums.{sumZ}
 use Rattle.days.specs.Days.{isOn, isWorking}
-use Rattle.calendar.specs.Months.{lastTradingOf}
+use Rattle.months.specs.Months.{lastTradingOf}
 use Rattle.tallies.specs.Means.{meanOf, total}
 use Rattle.tallies.specs.Tally.{latestOf, tallyFrom}
 use Rattle.positions.specs.Bounds.{noMark}

@@ -3,7 +3,7 @@ ghost use mathlib.Core.Path.{_≡_};
 ghost use mathlib.Core.Bool.{true};
 ghost use Prim.Native.Nat.{_<_};
 ghost use Rattle.days.specs.Days.{rising, isOn, isWorking};
-ghost use Rattle.calendar.specs.Months.{lastTradingOf};
+ghost use Rattle.months.specs.Months.{lastTradingOf};
 ghost use Rattle.tallies.specs.Bounds.{Sound};
 ghost use Rattle.standing.specs.CloseRows.{outcomeFrom, outcomeFor, priced};
 ghost use Rattle.standing.specs.Turns.{Has, Tells, Turns};

@@ -13,7 +13,7 @@ use Rattle.whole.specs.Sums.{sumZ}
 use Rattle.whole.specs.Larger.{larger}
 use Rattle.whole.specs.Round.{hundredthUp}
 use Rattle.days.specs.Days.{rising, isWeekend, isException, isWorking, firstWorking, lastWorking}
-use Rattle.calendar.specs.Months.{isCode, monthOf, codeOf, monthLength, firstDay, thirdWednesday, settlementDay, lastTradingDay}
+use Rattle.months.specs.Months.{isCode, monthOf, codeOf, monthLength, firstDay, thirdWednesday, settlementDay, lastTradingDay}
 use Rattle.calendar.specs.Listing.{listing}
 use Rattle.calendar.specs.Choosing.{considered}
 use Rattle.calendar.specs.ChoosingLaws.{chosenAfter, computed-listing}

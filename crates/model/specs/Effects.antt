@@ -9,7 +9,7 @@ use Rattle.lists.specs.Has.{has, placeOf}
 use Rattle.lists.specs.Those.{those}
 use Rattle.whole.specs.Sums.{sumZ}
 use Rattle.days.specs.Days.{isOn}
-use Rattle.calendar.specs.Months.{lastTradingOf}
+use Rattle.months.specs.Months.{lastTradingOf}
 use Rattle.calendar.specs.Listing.{listing}
 use Rattle.tallies.specs.Means.{weighted}
 use Rattle.tallies.specs.Tally.{withTrade, withQuote}

@@ -5,7 +5,7 @@ use mathlib.Core.List.{List, [], _∷_, _++_, map}
 use Prim.Native.Nat.{ℕ}
 use lib.IntN.{ℤ, pos, negℤ}
 use Rattle.days.specs.declared.Day.the-variants.{On}
-use Rattle.calendar.specs.Months.{settlementOf, lastTradingOf}
+use Rattle.months.specs.Months.{settlementOf, lastTradingOf}
 use Rattle.calendar.specs.Listing.{listing}
 use Rattle.calendar.specs.Examples.{plain}
 use Rattle.numbers.specs.Seven.{none, got, decode}

@@ -15,7 +15,7 @@ use Rattle.days.specs.declared.Day.{Day}
 use Rattle.days.specs.declared.Day.the-variants.{On, NoDay}
 use Rattle.days.specs.Days.{nextWorking, isOn}
 use Rattle.days.specs.DayLaws.{first-of}
-use Rattle.calendar.specs.Months.{lastTradingOf}
+use Rattle.months.specs.Months.{lastTradingOf}
 use Rattle.calendar.specs.Listing.{listing}
 use Rattle.records.specs.Records.{Entry}
 use Rattle.positions.specs.Deals.{flat}

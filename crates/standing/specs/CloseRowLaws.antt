@@ -15,7 +15,7 @@ use Rattle.lists.specs.PaddedLaws.{padded-full, take-padded}
 use Rattle.lists.specs.Rows.{firstRows, drop-map, getD-map-below}
 use Rattle.lists.specs.Zipped.{zipped, zipped-map}
 use Rattle.days.specs.Days.{isWorking, isOn, accepted}
-use Rattle.calendar.specs.Months.{lastTradingOf}
+use Rattle.months.specs.Months.{lastTradingOf}
 use Rattle.tallies.specs.Tally.{sideIn}
 use Rattle.tallies.specs.declared.Tally.{Tally}
 use Rattle.rates.specs.Rules.{numberOf, ruleAt}

@@ -9,7 +9,7 @@ use Rattle.lists.specs.Padded.{padded}
 use Rattle.lists.specs.Rows.{firstRows}
 use Rattle.lists.specs.Zipped.{zipped}
 use Rattle.days.specs.Days.{isOn, isWorking}
-use Rattle.calendar.specs.Months.{lastTradingOf}
+use Rattle.months.specs.Months.{lastTradingOf}
 use Rattle.rates.specs.Rules.{numberOf}
 use Rattle.rates.specs.Settling.{settledFrom}
 use Rattle.positions.specs.Deals.{flat}

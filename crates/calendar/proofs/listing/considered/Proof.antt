@@ -2,7 +2,7 @@
 use mathlib.Core.Path.{_≡_, sym, ap, _∙_}
 use mathlib.Core.Bool.{true}
 use borrow.Author.Tests.{not-true, not-false}
-use Rattle.calendar.specs.Months.{isQuarterly}
+use Rattle.months.specs.Months.{isQuarterly}
 use Rattle.calendar.specs.Listing.{isAfter}
 use Rattle.calendar.specs.Choosing.{hasPlace, considered}
 use Rattle.calendar.specs.ChoosingLaws.{place-left}

@@ -6,7 +6,7 @@ use lib.ListN.{take, drop}
 use Rattle.lists.specs.Parts.{part-width}
 use Rattle.whole.specs.Machine.{back}
 use Rattle.days.specs.Days.{rising, isOn, isWorking}
-use Rattle.calendar.specs.Months.{lastTradingOf}
+use Rattle.months.specs.Months.{lastTradingOf}
 use Rattle.memory.specs.Layout.{Long}
 use Rattle.memory.specs.MemoryLaws.{memory-long, header-is, contract-is}
 use Rattle.standing.specs.SoundLaws.{exceptions-read}
