@@ -138,7 +138,7 @@ fn margins_in(fields: [u64; WIDTH]) -> [u64; 6]
     ]
 }
 
-fn deal_in(fields: [u64; WIDTH]) -> Deal
+pub fn deal_in(fields: [u64; WIDTH]) -> Deal
     ensures { λ r. ⌜ r ≡ dealIn fields ⌝ }
 {
     let rate = unfold(fields[5]);

@@ -8,4 +8,5 @@ pub use bytes::feed;
 pub use bytes::run;
 pub use calls::Answer;
 pub use calls::call;
+pub use calls::deal_in;
 pub use calls::new_book;

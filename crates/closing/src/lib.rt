@@ -46,7 +46,7 @@ pub fn at_close(h: Holdings, d: DayEnd) -> Holdings
 }
 
 // What a total asks beyond the basis: the excess at the multiplier, in hundredths, rounded up.
-fn over_limit(total: i64, basis: i64, multiplier: u64) -> i64
+pub fn over_limit(total: i64, basis: i64, multiplier: u64) -> i64
     requires { ⌜ Amount 12000000000000 total × (Amount 100000000000000 basis × (multiplier ≤ 1000)) ⌝ }
     ensures { λ r. ⌜ r ≡ overLimit total basis multiplier ⌝ }
 {

@@ -5,7 +5,7 @@ ghost use lib.Dec.{eqb};
 ghost use Rattle.model.specs.Refusals.{inHours};
 
 // Whether the day is open, settled or not.
-pub(crate) fn is_open(point: u64) -> bool
+pub fn is_open(point: u64) -> bool
     ensures { λ r. ⌜ r ≡ (eqb point 2 || eqb point 3) ⌝ }
 {
     if point == 2 {

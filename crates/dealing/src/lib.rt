@@ -6,6 +6,7 @@ mod sides;
 mod trades;
 
 use holdings::Totals;
+pub use hours::is_open;
 pub use quotes::quote;
 pub use trades::trade;
 

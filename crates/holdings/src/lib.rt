@@ -112,7 +112,7 @@ pub fn is_over(t: Totals) -> bool
 }
 
 // The totals before and after a trade, and the limit.
-fn totals_of(h: Holdings, after: Holdings, margins: [u64; 6]) -> Totals
+pub fn totals_of(h: Holdings, after: Holdings, margins: [u64; 6]) -> Totals
     requires { ⌜ Sound 10000 h × (Nets 21000 (after .positions) × Margins margins) ⌝ }
     ensures { λ r. ⌜ r ≡ totalsOf margins h after ⌝ }
 {

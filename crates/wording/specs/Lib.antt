@@ -1,0 +1,4 @@
+pub mod Words
+pub mod Text
+pub mod TextLaws
+pub mod WalkLaws
