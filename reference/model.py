@@ -22,9 +22,9 @@ from tempfile import TemporaryDirectory
 # Of this folder.
 from accounts import Book, Refused
 from calendar import FIRST, LAST, ONE_DAY, code_of, dates, is_in, number_of
-from cases import event_files
 from rates import BID, OFFER, Day, Trade, in_last_hour, records_in, verdicts_in
 from records import START, numbers_of
+from vectors import event_files
 
 ROOT = Path(__file__).resolve().parent.parent
 SPECS = 'crates/tables/specs'

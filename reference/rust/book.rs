@@ -9,7 +9,7 @@ const MOST_NET: i64 = 20_000;
 const MOST_TRADES: usize = 10_000;
 const MOST_QUOTES: usize = 10_000;
 const MOST_HELD: i64 = 100_000_000_000_000_000;
-const FEN_PER_RATE_UNIT: i64 = 250;
+pub const FEN_PER_RATE_UNIT: i64 = 250;
 
 /// Stands in place of a day before the first open.
 pub const NEVER_OPEN: i64 = -1;
@@ -60,16 +60,16 @@ pub struct Account {
     pub core: i64,
     pub cash: i64,
     pub margin: i64,
-    due: i64,
+    pub due: i64,
     pub requirement: i64,
     pub free: i64,
-    special_margin: i64,
-    day_end_total: i64,
+    pub special_margin: i64,
+    pub day_end_total: i64,
     pub in_default: bool,
     /// Net lots now, by row of the contract.
     pub net: [i64; CONTRACTS],
     /// Net lots before today.
-    net_before: [i64; CONTRACTS],
+    pub net_before: [i64; CONTRACTS],
 }
 
 /// Buyer and seller are rows of accounts.
@@ -93,8 +93,8 @@ pub struct Contract {
 
 pub struct Book {
     pub phase: Phase,
-    reference_rate: i64,
-    multiplier: i64,
+    pub reference_rate: i64,
+    pub multiplier: i64,
     /// Empty until the start.
     pub calendar: Calendar,
     /// The day open, or the last one closed, or NEVER_OPEN.
@@ -111,10 +111,26 @@ pub struct Book {
     house: i64,
 }
 
+/// An account's total before and after a trade, and its limit.
+#[derive(Clone, Copy)]
+pub struct Totals {
+    pub before: i64,
+    pub after: i64,
+    pub limit: i64,
+}
+
+impl Totals {
+    pub fn over_limit(&self) -> bool {
+        self.after > self.limit && self.after > self.before
+    }
+}
+
 /// A contract's settlement rate, the rule it came from, and how many trades or quotes it used.
 pub struct DayRate {
     pub code: i64,
     pub rate: i64,
+    /// The rate of the close before, or the list rate of a new contract.
+    pub previous_rate: i64,
     pub rule: u8,
     pub used: usize,
 }
@@ -334,7 +350,8 @@ impl Book {
         if buyer_net > MOST_NET || seller_net < -MOST_NET {
             return Err(Refusal::NetTooLarge);
         }
-        if self.over_limit(buyer, row, buyer_net) || self.over_limit(seller, row, seller_net) {
+        let over_limit = |account, new_net| self.totals(account, row, new_net).over_limit();
+        if over_limit(buyer, buyer_net) || over_limit(seller, seller_net) {
             return Err(Refusal::OverLimit);
         }
         self.accounts[buyer].net[row] = buyer_net;
@@ -360,13 +377,19 @@ impl Book {
         self.contracts.iter().zip(net).map(|(contract, lots)| lots.abs() * contract.margin_rate).sum()
     }
 
-    fn over_limit(&self, account_row: usize, contract_row: usize, new_net: i64) -> bool {
+    fn totals(&self, account_row: usize, contract_row: usize, new_net: i64) -> Totals {
         let account = &self.accounts[account_row];
         let mut net = account.net;
         let before = self.total(&net);
         net[contract_row] = new_net;
-        let after = self.total(&net);
-        after > account.core + account.tolerance && after > before
+        Totals { before, after: self.total(&net), limit: account.core + account.tolerance }
+    }
+
+    /// The totals if the account's net changed now. None: no such account or contract.
+    pub fn totals_with(&self, number: i64, code: i64, lots: i64) -> Option<Totals> {
+        let account_row = self.account_row(number).ok()?;
+        let contract_row = self.contract_row(code).ok()?;
+        Some(self.totals(account_row, contract_row, self.accounts[account_row].net[contract_row] + lots))
     }
 
     fn quote(&mut self, time: i64, code: i64, side: i64, rate: i64) -> Result<(), Refusal> {
@@ -493,7 +516,7 @@ impl Contract {
         } else {
             (self.previous_rate, 4, 0)
         };
-        DayRate { code: self.month.code, rate, rule, used }
+        DayRate { code: self.month.code, rate, previous_rate: self.previous_rate, rule, used }
     }
 }
 

@@ -1,7 +1,8 @@
-//! Big event files for measuring speed; every record in them is accepted.
+//! Big event files. Those for measuring speed have accepted records only.
 
+use crate::random::Random;
 use crate::records::*;
-use crate::script::{Random, Script};
+use crate::script::Script;
 
 const ACCOUNTS: i64 = 64;
 const FIRST_DAY: i64 = 5;
@@ -37,6 +38,25 @@ pub fn years(days: u64) -> Vec<u8> {
         trades_and_quotes(&mut script, 200, 200);
         let final_rate = script.random.between(22_000, 24_000);
         accepted(&mut script, CLOSE, &[final_rate]);
+    }
+    script.bytes
+}
+
+/// Days on which more and more trades are refused, around the most that an explanation shows.
+pub fn refusals() -> Vec<u8> {
+    const MOST_SHOWN: i64 = 1_000;
+    let mut script = begin(3);
+    for refused in [MOST_SHOWN - 1, MOST_SHOWN, MOST_SHOWN + 1, 2 * MOST_SHOWN + 3] {
+        open_day(&mut script);
+        trades_and_quotes(&mut script, 500, 10);
+        for turn in 0..refused {
+            let row = script.random.below(2);
+            let code = script.book.contracts[row].month.code;
+            let time = script.random.pick(&[MORNING_OPENS - 1, MORNING_OPENS, HOURS_END]);
+            let (buyer, seller) = (FIRST_ACCOUNT, FIRST_ACCOUNT + turn % ACCOUNTS);
+            script.send(TRADE, &[time, code, buyer, seller, 1 + turn % 3, 23_000 - turn]);
+        }
+        accepted(&mut script, CLOSE, &[23_000]);
     }
     script.bytes
 }

@@ -96,6 +96,16 @@ fn days_in_month(year: i64, month: i64) -> i64 {
     }
 }
 
+/// Year, month and day of the month.
+pub fn date(day: i64) -> (i64, i64, i64) {
+    let (mut year, mut month, mut left) = (FIRST_YEAR, 1, day);
+    while left >= days_in_month(year, month) {
+        left -= days_in_month(year, month);
+        (year, month) = if month == 12 { (year + 1, 1) } else { (year, month + 1) };
+    }
+    (year, month, left + 1)
+}
+
 fn contract_months(working: &[bool]) -> Vec<Month> {
     let is_working = |&day: &i64| working[day as usize];
     let mut months = Vec::new();

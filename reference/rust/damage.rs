@@ -1,7 +1,8 @@
 //! Damage to event files: what a reader must refuse, or take for something else.
 
+use crate::random::Random;
 use crate::records::{write_number, FIELDS, MOST_EXCEPTIONS};
-use crate::script::{Random, Script};
+use crate::script::Script;
 
 /// Damages the file in one of several ways.
 pub fn damage(script: &mut Script) {

@@ -1,6 +1,8 @@
 //! The day program: reads an event file on standard input and prints what the book answers.
 
+#[allow(dead_code)] // The day's end is printed; the book's state is not asked for.
 mod book;
+#[allow(dead_code)] // Only explain shows dates.
 mod calendar;
 #[allow(dead_code)] // Only the generator writes records.
 mod records;

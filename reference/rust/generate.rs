@@ -4,14 +4,18 @@
 //!     generate FIRST LAST DIR    DIR/SEED.events for each seed
 //!     generate busy OUT [DAYS]   days with full tables of trades and quotes
 //!     generate years OUT [DAYS]  a long row of middling days
+//!     generate refusals OUT      days with about a thousand refused trades of one account
 //!
 //! A seed alone decides its file.
 
 #[allow(dead_code)] // The generator asks the book for its state and prints no answers.
 mod book;
 mod bulk;
+#[allow(dead_code)] // Only explain shows dates.
 mod calendar;
 mod damage;
+#[allow(dead_code)] // Its files keep the numbers they have.
+mod random;
 #[allow(dead_code)] // Only the day program reads records.
 mod records;
 mod scenes;
@@ -42,6 +46,7 @@ fn run(words: &[&str]) -> io::Result<()> {
         ["busy", out, days] => std::fs::write(out, bulk::busy(number(days)?)),
         ["years", out] => std::fs::write(out, bulk::years(1_300)),
         ["years", out, days] => std::fs::write(out, bulk::years(number(days)?)),
+        ["refusals", out] => std::fs::write(out, bulk::refusals()),
         [seed] => io::stdout().write_all(&event_file(number(seed)?)),
         [first, last, dir] => {
             for seed in number(first)?..=number(last)? {
@@ -49,7 +54,9 @@ fn run(words: &[&str]) -> io::Result<()> {
             }
             Ok(())
         }
-        _ => Err(io::Error::other("usage: SEED | FIRST LAST DIR | busy OUT [DAYS] | years OUT [DAYS]")),
+        _ => Err(io::Error::other(
+            "usage: SEED | FIRST LAST DIR | busy OUT [DAYS] | years OUT [DAYS] | refusals OUT",
+        )),
     }
 }
 

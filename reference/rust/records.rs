@@ -83,13 +83,13 @@ impl Field {
 }
 
 /// 0, 1, 2, 3 become 0, -1, 1, -2.
-fn unfold(number: u64) -> i64 {
+pub fn unfold(number: u64) -> i64 {
     let half = (number >> 1) as i64;
     if number & 1 == 0 { half } else { -half - 1 }
 }
 
 /// 0, -1, 1, -2 become 0, 1, 2, 3.
-fn fold(value: i64) -> u64 {
+pub fn fold(value: i64) -> u64 {
     if value >= 0 { value as u64 * 2 } else { (-(value + 1)) as u64 * 2 + 1 }
 }
 

@@ -1,4 +1,0 @@
-pub mod Figures
-pub mod FigureLaws
-pub mod Lines
-pub mod LineLaws
