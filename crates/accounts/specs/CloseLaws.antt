@@ -9,7 +9,7 @@ use Rattle.lists.specs.Keep.{cond-keeps}
 use Rattle.whole.specs.Parts.{parts₃, ring, zarith}
 use Rattle.whole.specs.Tests.{le-yes}
 use Rattle.whole.specs.Larger.{larger-above, smaller-below}
-use Rattle.positions.specs.Variation.{variation}
+use Rattle.booking.specs.Variation.{variation}
 use Rattle.holdings.specs.Holdings.{basis}
 use Rattle.closing.specs.DayEndLaws.{over-nonneg, over-none}
 use Rattle.closing.specs.DayEnd.{atClose, overLimit, requirement, fullCore, withCore}

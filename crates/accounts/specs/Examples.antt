@@ -9,9 +9,9 @@ use Rattle.whole.specs.Sums.{sumZ}
 use Rattle.whole.specs.Larger.{larger}
 use Rattle.whole.specs.Round.{hundredthUp}
 use Rattle.positions.specs.Deals.{withDeal}
-use Rattle.positions.specs.Totals.{total}
-use Rattle.positions.specs.Variation.{variationAt, variation}
-use Rattle.positions.specs.Carried.{allCarried}
+use Rattle.totals.specs.Totals.{total}
+use Rattle.booking.specs.Variation.{variationAt, variation}
+use Rattle.booking.specs.Carried.{allCarried}
 use Rattle.holdings.specs.Holdings.{newHoldings, withTrade}
 use Rattle.holdings.specs.Limits.{totalsOf, isOver, sideOf, refusalOf}
 use Rattle.holdings.specs.declared.Holdings.{Holdings}

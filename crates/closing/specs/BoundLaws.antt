@@ -10,9 +10,10 @@ use Rattle.whole.specs.Within.{widen}
 use Rattle.whole.specs.Larger.{larger, smaller, larger-above, ring-larger}
 use Rattle.whole.specs.Round.{hundredthUp}
 use Rattle.whole.specs.Amounts.{Amount, amount-ind, amount-pos, amount-+, amount-widen, amount-larger, amount-smaller}
-use Rattle.positions.specs.Carried.{allCarried}
+use Rattle.booking.specs.Carried.{allCarried}
 use Rattle.positions.specs.Bounds.{Kept}
-use Rattle.positions.specs.BoundLaws.{carried-kept, total-amount, variation-within}
+use Rattle.totals.specs.BoundLaws.{total-amount}
+use Rattle.booking.specs.BoundLaws.{carried-kept, variation-within}
 use Rattle.holdings.specs.Holdings.{basis}
 use Rattle.holdings.specs.Bounds.{GoodReference, Sound}
 use Rattle.holdings.specs.declared.Holdings.{Holdings}

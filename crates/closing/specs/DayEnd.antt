@@ -5,9 +5,9 @@ use lib.IntN.{ℤ, pos, _+ℤ_, _-ℤ_, _*ℤ_}
 use lib.Signed.{leZ}
 use Rattle.whole.specs.Larger.{larger, smaller}
 use Rattle.whole.specs.Round.{hundredthUp}
-use Rattle.positions.specs.Totals.{total}
-use Rattle.positions.specs.Variation.{variation}
-use Rattle.positions.specs.Carried.{allCarried}
+use Rattle.totals.specs.Totals.{total}
+use Rattle.booking.specs.Variation.{variation}
+use Rattle.booking.specs.Carried.{allCarried}
 use Rattle.holdings.specs.Holdings.{basis}
 use Rattle.holdings.specs.declared.Holdings.{Holdings}
 use Rattle.closing.specs.declared.DayEnd.{DayEnd}

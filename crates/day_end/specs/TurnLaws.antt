@@ -12,7 +12,7 @@ use Rattle.lists.specs.Parts.{onto, onto-step, onto-all}
 use Rattle.lists.specs.Rows.{getD-map-below}
 use Rattle.lists.specs.Zipped.{zipped, zipped-length, zipped-drop, zipped-keeps}
 use Rattle.tallies.specs.Tally.{latestOf, tallyFrom}
-use Rattle.positions.specs.Carried.{carried, allCarried}
+use Rattle.booking.specs.Carried.{carried, allCarried}
 use Rattle.positions.specs.Deals.{flat}
 use Rattle.closing.specs.Bounds.{GoodDayEnd}
 use Rattle.closing.specs.DayEnd.{atClose, withCore}

@@ -11,7 +11,7 @@ use Rattle.lists.specs.Has.{has}
 use Rattle.lists.specs.Keyed.{has-at, found-at, found-none}
 use Rattle.lists.specs.Seek.{seek}
 use Rattle.lists.specs.declared.Found.the-variants.{At, Nothing}
-use Rattle.positions.specs.Totals.{isBeyond}
+use Rattle.positions.specs.Beyond.{isBeyond}
 use Rattle.holdings.specs.Limits.{isOver}
 use Rattle.memory.specs.Layout.{headerAt, codeAt, numberAt}
 use Rattle.memory.specs.Memory.{Holds}

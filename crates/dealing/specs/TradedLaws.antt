@@ -5,7 +5,7 @@ use mathlib.Core.List.{List, [], _∷_}
 use Prim.Native.Nat.{ℕ, zero, suc}
 use native.Mathlib.Omega.{arith}
 use lib.IntN.{ℤ}
-use Rattle.positions.specs.Totals.{isBeyond}
+use Rattle.positions.specs.Beyond.{isBeyond}
 use Rattle.holdings.specs.Limits.{isOver}
 use Rattle.holdings.specs.declared.Side.the-variants.{Passes, Beyond, Over}
 use Rattle.holdings.specs.declared.Totals.{Totals}

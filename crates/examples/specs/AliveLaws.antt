@@ -25,9 +25,9 @@ use Rattle.tallies.specs.Means.{meanOf, total}
 use Rattle.tallies.specs.Tally.{tallyFrom}
 use Rattle.rates.specs.Rules.{ruleAt}
 use Rattle.rates.specs.Settling.{settledFrom}
-use Rattle.positions.specs.Totals as positions
-use Rattle.positions.specs.Variation.{variationAt, variation}
-use Rattle.positions.specs.Carried.{allCarried}
+use Rattle.totals.specs.Totals as positions
+use Rattle.booking.specs.Variation.{variationAt, variation}
+use Rattle.booking.specs.Carried.{allCarried}
 use Rattle.holdings.specs.Holdings.{newHoldings}
 use Rattle.holdings.specs.Limits.{totalsOf, isOver}
 use Rattle.closing.specs.DayEnd.{atClose, overLimit, requirement, withCore}

@@ -32,9 +32,9 @@ use Rattle.tallies.specs.Tally.{tallyFrom, inDay}
 use Rattle.rates.specs.Rules.{ruleAt}
 use Rattle.rates.specs.Settling.{settledFrom}
 use Rattle.rates.specs.Examples as rates
-use Rattle.positions.specs.Totals as positions
-use Rattle.positions.specs.Variation.{variationAt, variation}
-use Rattle.positions.specs.Carried.{allCarried}
+use Rattle.totals.specs.Totals as positions
+use Rattle.booking.specs.Variation.{variationAt, variation}
+use Rattle.booking.specs.Carried.{allCarried}
 use Rattle.holdings.specs.Holdings.{newHoldings}
 use Rattle.holdings.specs.Limits.{totalsOf, isOver}
 use Rattle.holdings.specs.LimitLaws as holdings

@@ -9,7 +9,7 @@ use lib.ListN.{getD}
 use Rattle.whole.specs.Within.{Within}
 use Rattle.whole.specs.Amounts.{Amount, amount-within, amount-pos}
 use Rattle.positions.specs.Deals.{flat}
-use Rattle.positions.specs.Totals.{isBeyond}
+use Rattle.positions.specs.Beyond.{isBeyond}
 use Rattle.positions.specs.Bounds.{Nets}
 use Rattle.positions.specs.BoundLaws.{none-kept, kept-wider, deal-nets, deal-kept}
 use Rattle.holdings.specs.Holdings.{basis, newHoldings, withLimits, withSpecial, withTrade}

@@ -14,8 +14,8 @@ use Rattle.lists.specs.Keep.{cond-keeps, set-keeps}
 use Rattle.whole.specs.Order.{≤ℤ-total}
 use Rattle.whole.specs.Tests.{lt-yes, lt-true}
 use Rattle.positions.specs.Deals.{flat, dealt, withDeal}
-use Rattle.positions.specs.Totals.{isBeyond}
-use Rattle.positions.specs.TotalLaws.{total-reduced}
+use Rattle.positions.specs.Beyond.{isBeyond}
+use Rattle.totals.specs.TotalLaws.{total-reduced}
 use Rattle.holdings.specs.Holdings.{withTrade}
 use Rattle.holdings.specs.Limits.{totalsOf, isOver, byTotals, sideOf, refusalOf}
 use Rattle.holdings.specs.declared.Holdings.{Holdings}

@@ -6,7 +6,8 @@ use lib.IntN.{ℤ, _+ℤ_}
 use lib.ListN.{getD}
 use lib.Signed.{ltZ}
 use Rattle.positions.specs.Deals.{flat}
-use Rattle.positions.specs.Totals.{total, isBeyond}
+use Rattle.positions.specs.Beyond.{isBeyond}
+use Rattle.totals.specs.Totals.{total}
 use Rattle.holdings.specs.declared.Holdings.{Holdings}
 use Rattle.holdings.specs.declared.Totals.{Totals}
 use Rattle.holdings.specs.declared.Side.{Side}

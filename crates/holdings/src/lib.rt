@@ -10,8 +10,8 @@ ghost use Rattle.holdings.specs.Bounds.{Granted, GoodReference, Sound};
 use positions::Position;
 use positions::is_beyond;
 use positions::no_positions;
-use positions::total;
 use positions::with_deal;
+use totals::total;
 
 // The clearing limit, in lots, and the tolerance, in fen.
 pub struct Limits {

@@ -20,7 +20,7 @@ use Rattle.tallies.specs.Day.{inLastHour}
 use Rattle.tallies.specs.Tally.{sideIn}
 use Rattle.positions.specs.Deals.{flat, overnight}
 use Rattle.positions.specs.Bounds.{costs, dayMost}
-use Rattle.positions.specs.Totals.{isBeyond}
+use Rattle.positions.specs.Beyond.{isBeyond}
 use Rattle.positions.specs.declared.Position.{Position}
 use Rattle.holdings.specs.declared.Limits.{Limits}
 use Rattle.holdings.specs.Bounds.{Granted}

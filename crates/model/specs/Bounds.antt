@@ -10,7 +10,7 @@ use Rattle.whole.specs.Amounts.{Amount}
 use Rattle.tallies.specs.Bounds as tallies
 use Rattle.tallies.specs.Means.{total}
 use Rattle.positions.specs.Bounds.{costs}
-use Rattle.positions.specs.Totals as positions
+use Rattle.totals.specs.Totals as positions
 use Rattle.holdings.specs.Limits.{limitOf}
 use Rattle.holdings.specs.Bounds.{Granted}
 use Rattle.funds.specs.Bounds as funds

@@ -20,10 +20,10 @@ use Rattle.rates.specs.RuleLaws.{settles}
 use Rattle.rates.specs.Settling.{settledFrom}
 use Rattle.rates.specs.declared.Settled.{Settled}
 use Rattle.positions.specs.Deals.{Deal, lotsOf, bought, sold, flat, overnight}
-use Rattle.positions.specs.Carried.{carried, allCarried}
-use Rattle.positions.specs.Totals.{asked, total}
-use Rattle.positions.specs.Variation.{earned, variationOf, variationAt, variation}
-use Rattle.positions.specs.VariationLaws.{variation-kept}
+use Rattle.booking.specs.Carried.{carried, allCarried}
+use Rattle.totals.specs.Totals.{asked, total}
+use Rattle.booking.specs.Variation.{earned, variationOf, variationAt, variation}
+use Rattle.booking.specs.VariationLaws.{variation-kept}
 use Rattle.closing.specs.DayEnd.{atClose, withCore}
 use Rattle.accounts.specs.Accounts.{closed}
 use Rattle.model.specs.Book.{Book, Terms, noTerms, Held, isMember, isListed, marginsOf}

@@ -14,7 +14,7 @@ use Rattle.whole.specs.Parts.{parts₃, ring, zarith}
 use Rattle.whole.specs.Within.{Within, natAbs-neg-pos, lit, within-+, within-*}
 use Rattle.whole.specs.Sizes.{sizes}
 use Rattle.positions.specs.Deals.{flat, overnight, dealt}
-use Rattle.positions.specs.Totals.{isBeyond}
+use Rattle.positions.specs.Beyond.{isBeyond}
 use Rattle.positions.specs.declared.Position.{Position}
 use Rattle.model.specs.Calls.{Trade}
 use Rattle.model.specs.Effects.{lotsFor}

@@ -16,7 +16,7 @@ use Rattle.tallies.specs.Tally.{withTrade, withQuote}
 use Rattle.rates.specs.Settling.{settledFrom}
 use Rattle.rates.specs.declared.Settled.{Settled}
 use Rattle.positions.specs.Deals.{flat, dealt}
-use Rattle.positions.specs.Carried.{carried}
+use Rattle.booking.specs.Carried.{carried}
 use Rattle.positions.specs.declared.Position.{Position}
 use Rattle.positions.specs.declared.Mark.{Mark}
 use Rattle.holdings.specs.Holdings.{newHoldings, withLimits, withSpecial}

@@ -10,7 +10,7 @@ use Rattle.lists.specs.Has.{has}
 use Rattle.lists.specs.HasLaws.{byTest, clash, when-true, when-false, cond-same, neither, has-append, has-one, has-apart, those-lacks, Distinct, distinct-more}
 use Rattle.records.specs.Records.{Entry}
 use Rattle.positions.specs.Deals.{flat, overnight, dealt}
-use Rattle.positions.specs.Carried.{carried}
+use Rattle.booking.specs.Carried.{carried}
 use Rattle.positions.specs.declared.Position.{Position}
 use Rattle.positions.specs.declared.Mark.{Mark}
 use Rattle.holdings.specs.declared.Limits.{Limits}

@@ -9,9 +9,10 @@ use Rattle.lists.specs.Keep.{cond-keeps, map-keeps}
 use Rattle.whole.specs.Within.{Within, wider, lit, natAbs-+}
 use Rattle.whole.specs.Amounts.{Amount, amount-pos}
 use Rattle.positions.specs.Bounds as positions
-use Rattle.positions.specs.BoundLaws.{none-kept, variation-most}
+use Rattle.positions.specs.BoundLaws.{none-kept}
+use Rattle.booking.specs.BoundLaws.{variation-most}
 use Rattle.positions.specs.Deals.{flat}
-use Rattle.positions.specs.Variation.{variation}
+use Rattle.booking.specs.Variation.{variation}
 use Rattle.positions.specs.declared.Position.{Position}
 use Rattle.holdings.specs.Bounds.{Granted, GoodReference}
 use Rattle.holdings.specs.Bounds as holdings

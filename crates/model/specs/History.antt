@@ -10,7 +10,7 @@ use Rattle.whole.specs.Sums.{sumZ}
 use Rattle.records.specs.Records.{Entry}
 use Rattle.tallies.specs.Day as day
 use Rattle.positions.specs.Deals.{Deal, bought, sold}
-use Rattle.positions.specs.Variation.{variationAt}
+use Rattle.booking.specs.Variation.{variationAt}
 use Rattle.model.specs.Book.{Book, new, isListed}
 use Rattle.model.specs.Calls.{Call, start, enrol, payIn, payOut, release, setSpecial, setLimits, opening, trade, quote, settle, refresh, close, unknown, Trade, Quote, callOf}
 use Rattle.model.specs.Effects.{paidTo, isEnding, settledAt, markOf}

@@ -14,8 +14,8 @@ use Rattle.whole.specs.Parts.{parts₃, ring, zarith}
 use Rattle.whole.specs.Sums.{sumZ}
 use Rattle.whole.specs.Over.{sumOver, over-ext, over-add, over-none}
 use Rattle.records.specs.Records.{Entry}
-use Rattle.positions.specs.Variation.{variationAt, variation}
-use Rattle.positions.specs.VariationLaws.{variation-flat}
+use Rattle.booking.specs.Variation.{variationAt, variation}
+use Rattle.booking.specs.VariationLaws.{variation-flat}
 use Rattle.funds.specs.Funds as funds
 use Rattle.funds.specs.FundsLaws.{worth, settled-moves, paid-in-keeps, paid-out-keeps, released-keeps, paid-in-worth, paid-out-worth, released-worth}
 use Rattle.funds.specs.declared.Funds.{Funds}

@@ -16,7 +16,7 @@ use Rattle.whole.specs.Larger.{larger}
 use Rattle.records.specs.Records.{Entry}
 use Rattle.rates.specs.Rules as rules
 use Rattle.positions.specs.Deals.{Deal, lotsOf}
-use Rattle.positions.specs.Variation.{variationOf}
+use Rattle.booking.specs.Variation.{variationOf}
 use Rattle.holdings.specs.declared.Totals.{Totals}
 use Rattle.model.specs.Book.{Book, isMember, isListed}
 use Rattle.model.specs.Calls.{Trade, Opening, callOf, opening, trade, close}

@@ -10,7 +10,7 @@ use Rattle.ranges.specs.Ranges as ranges
 use Rattle.records.specs.Records.{Entry}
 use Rattle.tallies.specs.Day.{clock, inLastHour}
 use Rattle.tallies.specs.Tally.{sideIn}
-use Rattle.positions.specs.Totals.{isBeyond}
+use Rattle.positions.specs.Beyond.{isBeyond}
 use Rattle.holdings.specs.Limits.{totalsOf, isOver}
 use Rattle.holdings.specs.declared.Totals.{Totals}
 use Rattle.funds.specs.Funds as funds

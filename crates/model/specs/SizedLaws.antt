@@ -16,7 +16,7 @@ use Rattle.whole.specs.Over.{sumOver}
 use Rattle.whole.specs.Amounts.{Amount, amount-pos, amount-+, amount-widen}
 use Rattle.tallies.specs.Bounds as tallies
 use Rattle.positions.specs.Bounds.{costs}
-use Rattle.positions.specs.Totals as positions
+use Rattle.totals.specs.Totals as positions
 use Rattle.positions.specs.declared.Position.{Position}
 use Rattle.funds.specs.Funds.{paidUp, inDefault, settled}
 use Rattle.funds.specs.FundsLaws.{settled-keeps}

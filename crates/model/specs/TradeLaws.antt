@@ -11,7 +11,7 @@ use Rattle.lists.specs.HasLaws.{byTest}
 use Rattle.whole.specs.Order.{≤ℤ-trans}
 use Rattle.whole.specs.Larger.{larger, larger-above}
 use Rattle.records.specs.Records.{Entry}
-use Rattle.positions.specs.Totals as positions
+use Rattle.totals.specs.Totals as positions
 use Rattle.holdings.specs.Limits.{totalsOf, isOver}
 use Rattle.holdings.specs.LimitLaws.{Allowed, not-over-allowed}
 use Rattle.model.specs.Book.{Book, marginsOf}

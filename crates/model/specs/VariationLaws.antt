@@ -18,9 +18,9 @@ use Rattle.whole.specs.Over.{sumOver}
 use Rattle.records.specs.Records.{Entry}
 use Rattle.positions.specs.Deals.{Deal, bought, sold, lotsOf, costOf, positionOf, overnight, flat, dealt}
 use Rattle.positions.specs.DealLaws.{lots-append, cost-append, position-none, position-dealt}
-use Rattle.positions.specs.Carried.{carried}
-use Rattle.positions.specs.Variation.{earned, variationAt}
-use Rattle.positions.specs.VariationLaws.{earned-kept, variation-flat}
+use Rattle.booking.specs.Carried.{carried}
+use Rattle.booking.specs.Variation.{earned, variationAt}
+use Rattle.booking.specs.VariationLaws.{earned-kept, variation-flat}
 use Rattle.positions.specs.declared.Position.{Position}
 use Rattle.positions.specs.declared.Mark.{Mark}
 use Rattle.model.specs.Book.{Book, noTerms, new, isListed, working}

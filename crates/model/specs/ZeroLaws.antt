@@ -11,7 +11,7 @@ use Rattle.lists.specs.HasLaws.{byTest, Distinct}
 use Rattle.whole.specs.Over.{sumOver}
 use Rattle.records.specs.Records.{Entry}
 use Rattle.positions.specs.Deals.{flat, overnight, dealt}
-use Rattle.positions.specs.Variation.{variationAt}
+use Rattle.booking.specs.Variation.{variationAt}
 use Rattle.positions.specs.declared.Position.{Position}
 use Rattle.positions.specs.declared.Mark.{Mark}
 use Rattle.model.specs.Book.{Book, new}

@@ -1,34 +1,24 @@
--- Positions keep their bounds through trades and closes, and what they ask for and book is bounded by them.
+-- Positions keep their bounds through trades.
 use mathlib.Core.Path.{_≡_, refl, sym, ap, _∙_, subst}
 use mathlib.Core.Bool.{false}
-use mathlib.Core.List.{List, [], _∷_, map}
-use Prim.Native.Nat.{ℕ, suc, _+_, _*_, _≤_, _<_}
-use native.Mathlib.Nat.{le-trans, mul-le-mul}
+use mathlib.Core.List.{List, map}
+use Prim.Native.Nat.{ℕ, _+_, _≤_, _<_}
+use native.Mathlib.Nat.{le-trans}
 use native.Mathlib.Omega.{arith}
 use borrow.Author.Tests.{ltb-false}
-use lib.IntN.{ℤ, pos, natAbs, _+ℤ_, _-ℤ_, _*ℤ_}
+use lib.IntN.{ℤ, pos, natAbs}
 use lib.ListN.{length, getD, set, replicate, length-set, length-map, List·getD-map}
 use lib.Seq.{getD-set-same}
-use Rattle.lists.specs.Keep.{cond-keeps, set-keeps, replicate-keeps}
+use Rattle.lists.specs.Keep.{set-keeps, replicate-keeps}
 use Rattle.lists.specs.Rows.{map-set}
-use Rattle.lists.specs.Zipped.{zipped, zipped-length, zipped-keeps}
-use Rattle.whole.specs.Parts.{parts₄, ring, zarith}
-use Rattle.whole.specs.Expand.{expand}
-use Rattle.whole.specs.Within.{Within, Each, within-most, within-+, within--, within-*, widen, wider, lit}
-use Rattle.whole.specs.Sums.{sumZ, sum-within}
-use Rattle.whole.specs.Sizes.{sizes, sum-sizes, sizes-at, sizes-set}
-use Rattle.whole.specs.Amounts.{Amount}
-use Rattle.positions.specs.Deals.{overnight, flat, dealt, withDeal}
-use Rattle.positions.specs.Totals.{asked, total, isBeyond}
-use Rattle.positions.specs.Variation.{variationAt, variation}
-use Rattle.positions.specs.Carried.{carried, allCarried}
-use Rattle.positions.specs.Rows.{rows-all}
-use Rattle.positions.specs.TotalLaws.{total-nonneg}
-use Rattle.positions.specs.Bounds.{Margins, Priced, noMark, PricedAll, Nets, costs, Kept, Modest, dayMost}
+use Rattle.whole.specs.Within.{Within, within-+, within-*, widen, wider, lit}
+use Rattle.whole.specs.Sizes.{sizes, sizes-at, sizes-set}
+use Rattle.positions.specs.Deals.{flat, dealt, withDeal}
+use Rattle.positions.specs.Beyond.{isBeyond}
+use Rattle.positions.specs.Bounds.{Nets, costs, Kept, Modest}
 use Rattle.positions.specs.declared.Position.{Position}
-use Rattle.positions.specs.declared.Mark.{Mark}
 
-zero-within : {B : ℕ} → Within B (pos 0)
+pub zero-within : {B : ℕ} → Within B (pos 0)
 zero-within = record { size = omega arith }
 
 -- ---- one position among them
@@ -42,72 +32,6 @@ modest-at {ps} k i = record {
         (k .costs);
   };
 }
-
--- ---- totals
-pub asked-each : {most : ℕ} {ps : List Position} {margins : List ℕ} → Nets most ps → Margins margins
-    → Each (most * 100000000) (zipped asked ps margins)
-asked-each {most} {ps} {margins} n m = record {
-  at = zipped-keeps asked (Within (most * 100000000)) (pos 0) flat 0 ps margins zero-within
-      (λ i. record { size = mul-le-mul (n .at i .size) (m .at i) });
-}
-
-pub total-amount : {most : ℕ} {ps : List Position} {margins : List ℕ} → Nets most ps → Margins margins
-    → Amount (6 * (most * 100000000)) (total ps margins)
-unfolding total
-total-amount {most} {ps} {margins} n m =
-    let all = zipped asked ps margins in
-    let six = rows-all asked 0 ps margins (n .six) (m .six) 6 (omega arith) in
-    let size = subst (Within (6 * (most * 100000000))) six (sum-within all 6 (asked-each n m)) in
-    record { least = total-nonneg ps margins; most = within-most (sumZ all) size }
-
--- ---- variation
--- The net at the new rate, less the net before today at the old one, less today's cost.
-variation-is : (p : Position) (m : Mark)
-    → variationAt p m ≡ pos 250 *ℤ ((p .net *ℤ m .rate -ℤ p .before *ℤ m .previous) -ℤ p .cost)
-unfolding variationAt
-variation-is p m = ap (λ z. pos 250 *ℤ z) (terms (p .net) (p .before) (p .cost) (m .rate) (m .previous))
-  where
-    terms : (n b c r q : ℤ) → ((n -ℤ b) *ℤ r -ℤ c) +ℤ b *ℤ (r -ℤ q) ≡ (n *ℤ r -ℤ b *ℤ q) -ℤ c
-    terms n b c r q =
-        simp expand
-        (parts₄ (n *ℤ r) (b *ℤ r) (b *ℤ q) c (λ w x y z. simp (w .is, x .is, y .is, z .is, ring) (omega zarith)))
-
-pub variation-at-within : {c : ℕ} {p : Position} {m : Mark}
-    → Within 20000 (p .before) → Within 20000 (p .net) → Within c (p .cost) → Priced m
-    → Within (250 * (4000000000 + c)) (variationAt p m)
-variation-at-within {c} {p} {m} b n k r =
-    subst (Within (250 * (4000000000 + c))) (sym (variation-is p m))
-    (within-* (lit (pos 250)) (within-- (within-- (within-* n (r .rate)) (within-* b (r .previous))) k))
-
-pub variation-each : {ps : List Position} {marks : List Mark} → Kept 10000 ps → PricedAll marks
-    → Each (250 * (4000000000 + 1000000000000)) (zipped variationAt ps marks)
-variation-each {ps} {marks} k r = record {
-  at = zipped-keeps variationAt (Within (250 * (4000000000 + 1000000000000))) (pos 0) flat noMark ps marks zero-within
-      (λ i. let p = modest-at k i in variation-at-within (p .before) (p .net) (p .cost) (r .at i));
-}
-
--- by the costs that the account has itself, so that the sum over accounts is bounded by all costs
-pub variation-most : {trades : ℕ} {ps : List Position} {marks : List Mark} → Kept trades ps → PricedAll marks
-    → Within (dayMost (costs ps)) (variation ps marks)
-unfolding variation zipped sizes
-variation-most {trades} {ps} {marks} k r = record {
-  size = le-trans (sum-sizes (zipped variationAt ps marks))
-      (omega (arith, all ps marks (k .befores) (k .nets .at) (r .at), k .nets .six));
-}
-  where
-    all : (ps : List Position) (marks : List Mark)
-        → ((i : ℕ) → Within 20000 (getD ps i flat .before)) → ((i : ℕ) → Within 20000 (getD ps i flat .net))
-        → ((i : ℕ) → Priced (getD marks i noMark))
-        → sizes (zipped variationAt ps marks) ≤ 250 * (costs ps + length ps * 4000000000)
-    all [] marks b n r = omega arith
-    all (p ∷ ps) [] b n r = omega arith
-    all (p ∷ ps) (m ∷ marks) b n r =
-        let here = variation-at-within {c = natAbs (p .cost)} {p = p} {m = m} (b 0) (n 0) (lit (p .cost)) (r 0) in
-        omega (arith, here .size, all ps marks (λ i. b (suc i)) (λ i. n (suc i)) (λ i. r (suc i)))
-
-pub variation-within : {trades : ℕ} {ps : List Position} {marks : List Mark} → Kept trades ps → PricedAll marks
-    → Within (dayMost (trades * 100000000)) (variation ps marks)
-variation-within k r = widen (variation-most k r) (omega (arith, k .costs))
 
 -- ---- kept
 pub none-kept : Kept 0 (replicate 6 flat)
@@ -123,35 +47,6 @@ nets-wider n h = record { six = n .six; at = λ i. widen (n .at i) h }
 
 pub kept-wider : {few many : ℕ} {ps : List Position} → Kept few ps → few ≤ many → Kept many ps
 kept-wider {few} {many} k h = record { nets = k .nets; befores = k .befores; costs = omega (arith, k .costs) }
-
--- Nothing of today is carried over, and nothing of a contract that ends.
-pub carried-kept : {trades : ℕ} {ps : List Position} {marks : List Mark} → Kept trades ps → PricedAll marks
-    → Kept 0 (allCarried ps marks)
-unfolding allCarried zipped sizes
-carried-kept {trades} {ps} {marks} k r = record {
-  nets = record {
-    six = zipped-length carried ps marks (k .nets .six) (r .six);
-    at = each (λ p. p .net) zero-within (λ p h. h);
-  };
-  befores = each (λ p. p .before) zero-within (λ p h. h);
-  costs = omega (arith, untouched ps marks);
-}
-  where
-    each : (f : Position → ℤ) → Within 20000 (f flat)
-        → ((p : Position) → Within 20000 (p .net) → Within 20000 (f (overnight (p .net))))
-        → (i : ℕ) → Within 20000 (f (getD (zipped carried ps marks) i flat))
-    each f z h = zipped-keeps carried (λ p. Within 20000 (f p)) flat flat noMark ps marks z
-        (λ i. cond-keeps (λ p. Within 20000 (f p)) (getD marks i noMark .ending) flat (overnight (getD ps i flat .net))
-        (λ e. z)
-        (λ e. h (getD ps i flat) (k .nets .at i)))
-
-    untouched : (ps : List Position) (marks : List Mark) → costs (zipped carried ps marks) ≡ 0
-    untouched [] marks = refl
-    untouched (p ∷ ps) [] = refl
-    untouched (p ∷ ps) (m ∷ marks) =
-        let here : natAbs (carried p m .cost) ≡ 0 =
-        cond-keeps (λ q. natAbs (q .cost) ≡ 0) (m .ending) flat (overnight (p .net)) (λ e. refl) (λ e. refl) in
-        omega (arith, here, untouched ps marks)
 
 -- ---- a trade
 module _ {trades : ℕ} {ps : List Position} {lots rate : ℤ}

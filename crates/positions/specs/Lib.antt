@@ -1,10 +1,6 @@
 pub mod Deals
 pub mod DealLaws
-pub mod Totals
-pub mod TotalLaws
-pub mod Variation
-pub mod VariationLaws
-pub mod Carried
+pub mod Beyond
 pub mod Rows
 pub mod Bounds
 pub mod BoundLaws

@@ -23,7 +23,7 @@ use Rattle.rates.specs.Settling.{settledFrom}
 use Rattle.rates.specs.declared.Rule.the-variants.{LastHour, LastFive, Quotes, Previous, Final}
 use Rattle.rates.specs.declared.Settled.{Settled}
 use Rattle.positions.specs.Deals.{flat}
-use Rattle.positions.specs.Carried.{carried, allCarried}
+use Rattle.booking.specs.Carried.{carried, allCarried}
 use Rattle.positions.specs.declared.Mark.{Mark}
 use Rattle.closing.specs.DayEnd.{atClose, withCore}
 use Rattle.closing.specs.declared.DayEnd.{DayEnd}

@@ -18,7 +18,7 @@ use Rattle.tallies.specs.Tally as tallies
 use Rattle.tallies.specs.declared.Tally.{Tally}
 use Rattle.positions.specs.Bounds.{Margins}
 use Rattle.positions.specs.Deals.{flat, dealt, withDeal}
-use Rattle.positions.specs.Totals.{isBeyond}
+use Rattle.positions.specs.Beyond.{isBeyond}
 use Rattle.holdings.specs.Bounds as holdings
 use Rattle.holdings.specs.BoundLaws.{sound-wider}
 use Rattle.holdings.specs.Holdings.{withTrade}

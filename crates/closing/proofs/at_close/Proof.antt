@@ -2,7 +2,8 @@ use mathlib.Core.Path.{_∙_}
 use native.Mathlib.Omega.{arith}
 use borrow.Author.Needs.{needs}
 use Rattle.whole.specs.Machine.{told}
-use Rattle.positions.specs.BoundLaws.{nets-wider, carried-kept}
+use Rattle.positions.specs.BoundLaws.{nets-wider}
+use Rattle.booking.specs.BoundLaws.{carried-kept}
 use Rattle.closing.specs.DayEnd.{atClose}
 use Rattle.closing.proofs.at_close.Statement.{statement}
 use Rattle.closing.proofs.at_close.Tie as tie

@@ -7,12 +7,13 @@ use mir.Val.{toZ}
 use Rattle.lists.specs.Zipped.{zipped}
 use Rattle.whole.specs.Machine.{Got, got, kept, fits}
 use Rattle.whole.specs.Sums.{sumZ, sum-none}
-use Rattle.positions.specs.Variation.{variationAt, variation}
 use Rattle.positions.specs.Rows.{row-more, rows-all}
 use Rattle.positions.specs.Bounds.{noMark}
-use Rattle.positions.specs.BoundLaws.{modest-at, variation-each}
-use Rattle.positions.proofs.variation.Statement.{statement}
-use Rattle.positions.proofs.variation.Tie as tie
+use Rattle.positions.specs.BoundLaws.{modest-at}
+use Rattle.booking.specs.Variation.{variationAt, variation}
+use Rattle.booking.specs.BoundLaws.{variation-each}
+use Rattle.booking.proofs.variation.Statement.{statement}
+use Rattle.booking.proofs.variation.Tie as tie
 
 -- the sum over the rows that the loop has passed
 abbrev Inv-loop : tie.InvT-loop

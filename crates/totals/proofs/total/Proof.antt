@@ -7,11 +7,11 @@ use mir.Val.{toZ}
 use Rattle.lists.specs.Zipped.{zipped}
 use Rattle.whole.specs.Machine.{Got, got, kept, fits}
 use Rattle.whole.specs.Sums.{sumZ, sum-none}
-use Rattle.positions.specs.Totals.{asked, total}
 use Rattle.positions.specs.Rows.{row-more, rows-all}
-use Rattle.positions.specs.BoundLaws.{asked-each}
-use Rattle.positions.proofs.total.Statement.{statement}
-use Rattle.positions.proofs.total.Tie as tie
+use Rattle.totals.specs.Totals.{asked, total}
+use Rattle.totals.specs.BoundLaws.{asked-each}
+use Rattle.totals.proofs.total.Statement.{statement}
+use Rattle.totals.proofs.total.Tie as tie
 
 -- the sum over the rows that the loop has passed
 abbrev Inv-loop : tie.InvT-loop

@@ -5,8 +5,8 @@ use native.Mathlib.Omega.{arith}
 use borrow.Author.Needs.{needs}
 use lib.IntN.{pos, natAbs}
 use Rattle.whole.specs.Machine.{arg, fits64, unsigned}
-use Rattle.positions.proofs.asked.Statement.{statement}
-use Rattle.positions.proofs.asked.Tie as tie
+use Rattle.totals.proofs.asked.Statement.{statement}
+use Rattle.totals.proofs.asked.Tie as tie
 
 size-requires : tie.Need-size-requires
 size-requires c κs = search needs

@@ -8,10 +8,10 @@ use Rattle.whole.specs.Parts.{parts₁, parts₂, ring, zarith}
 use Rattle.whole.specs.Expand.{expand}
 use Rattle.whole.specs.Sums.{sumZ}
 use Rattle.whole.specs.Over.{over-append}
 use Rattle.positions.specs.Deals.{Deal, bought, sold, lotsOf, costOf, positionOf, flat}
-use Rattle.positions.specs.Variation.{earned, variationOf, variationAt}
 use Rattle.positions.specs.declared.Position.{Position}
 use Rattle.positions.specs.declared.Mark.{Mark}
+use Rattle.booking.specs.Variation.{earned, variationOf, variationAt}
 
 -- ---- what is kept gives what the list gives
 pub earned-kept : (rate : ℤ) (today : List Deal)

@@ -13,9 +13,9 @@ use Rattle.whole.specs.Order.{pos-nonneg, +ℤ-mono}
 use Rattle.whole.specs.Within.{natAbs-+}
 use Rattle.whole.specs.Amounts.{amount-pos}
 use Rattle.whole.specs.Sums.{sumZ, sum-set}
 use Rattle.positions.specs.Deals.{flat, dealt, withDeal}
-use Rattle.positions.specs.Totals.{asked, total}
 use Rattle.positions.specs.declared.Position.{Position}
+use Rattle.totals.specs.Totals.{asked, total}
 
 -- ---- one contract more
 -- Document 01, Trade: "the sum over contracts of |net| times margin rate (no netting between contracts)".

@@ -5,11 +5,11 @@ use borrow.Author.Needs.{needs}
 use lib.ListN.{set, length}
 use Rattle.lists.specs.Zipped.{zipped, zipped-length, zipped-at}
 use Rattle.lists.specs.Parts.{onto, onto-step, onto-all}
 use Rattle.positions.specs.Deals.{flat}
-use Rattle.positions.specs.Carried.{carried, allCarried}
 use Rattle.positions.specs.Bounds.{noMark}
-use Rattle.positions.proofs.all_carried.Statement.{statement}
-use Rattle.positions.proofs.all_carried.Tie as tie
+use Rattle.booking.specs.Carried.{carried, allCarried}
+use Rattle.booking.proofs.all_carried.Statement.{statement}
+use Rattle.booking.proofs.all_carried.Tie as tie
 
 -- the rows that the loop has passed are carried over, the others as they were
 abbrev Inv-loop : tie.InvT-loop

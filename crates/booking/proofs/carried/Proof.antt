@@ -1,9 +1,9 @@
 use mathlib.Core.Path.{ap, _∙_}
 use borrow.Author.Needs.{needs}
 use Rattle.whole.specs.Machine.{told}
 use Rattle.positions.specs.Deals.{overnight}
-use Rattle.positions.proofs.carried.Statement.{statement}
-use Rattle.positions.proofs.carried.Tie as tie
+use Rattle.booking.proofs.carried.Statement.{statement}
+use Rattle.booking.proofs.carried.Tie as tie
 
 overnight-requires : tie.Need-overnight-requires
 overnight-requires c κs = search needs

@@ -1,9 +1,9 @@
 use lib.IntN.{pos, _+ℤ_, _-ℤ_, _*ℤ_}
 use Rattle.whole.specs.Within.{lit}
 use Rattle.whole.specs.Machine.{Got, got, now, arg, kept, fits, add, sub, mul}
-use Rattle.positions.specs.Variation.{variationAt}
-use Rattle.positions.proofs.variation_at.Statement.{statement}
-use Rattle.positions.proofs.variation_at.Tie as tie
+use Rattle.booking.specs.Variation.{variationAt}
+use Rattle.booking.proofs.variation_at.Statement.{statement}
+use Rattle.booking.proofs.variation_at.Tie as tie
 
 -- the lots of today; what today's trades earn; what the net before today earns
 abbrev lots : (s : tie.Start) → Got 40000 (s .args .p .net -ℤ s .args .p .before)

@@ -1,0 +1,4 @@
+pub mod Variation
+pub mod VariationLaws
+pub mod Carried
+pub mod BoundLaws
