@@ -16,7 +16,6 @@ ghost use Rattle.book.specs.Taken.{limitsIn, ratesIn, marginsIn, dealIn}
 use day_end::close;
 use dealing::Deal;
 use dealing::Dealt;
-use dealing::quote;
 use dealing::trade;
 use fields::WIDTH;
 use folding::unfold;
@@ -33,6 +32,7 @@ use memory::COUNTS;
 use memory::MONEY;
 use memory::clear;
 use opening::open_day;
+use quoting::quote;
 use ranges::Checked;
 use ranges::in_range;
 use settling::refresh;

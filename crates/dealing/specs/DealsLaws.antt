@@ -27,11 +27,11 @@ use Rattle.standing.specs.Standing.{accountRow, contractRow, rowsOf}
 use Rattle.standing.specs.StandingLaws.{rows-shaped}
 use Rattle.standing.specs.MemberLaws.{listed-row, member-account}
 use Rattle.standing.specs.DealLaws.{Stands, held-sound, account-after, contract-after, traded-rows}
+use Rattle.hours.specs.Clocked.{clocked, rows-written}
 use Rattle.dealing.specs.declared.Dealt.{Dealt}
 use Rattle.dealing.specs.Sides.{Moved, judged}
 use Rattle.dealing.specs.Parties.{Answers, Deals}
-use Rattle.dealing.specs.Written.{clocked, tradedRow, Writable, Written}
-use Rattle.dealing.specs.WrittenLaws.{rows-written}
+use Rattle.dealing.specs.Written.{tradedRow, Writable, Written}
 use Rattle.dealing.specs.TradedLaws.{judged-answers}
 
 -- an account that a trade has moved is as small as its tests ask

@@ -4,7 +4,4 @@ pub mod Parties
 pub mod PartiesLaws
 pub mod TradedLaws
 pub mod Written
-pub mod WrittenLaws
 pub mod DealsLaws
-pub mod Quotes
-pub mod QuoteLaws

@@ -1,49 +1,22 @@
 -- What each test of a trade refuses, in document 01's order.
-use mathlib.Core.Path.{_≡_, sym, ap, _∙_, subst}
+use mathlib.Core.Path.{_≡_, sym, ap, _∙_}
 use mathlib.Core.Bool.{true, false, not}
 use mathlib.Core.List.{List, [], _∷_}
 use Prim.Native.Nat.{ℕ, suc, _≤_}
 use borrow.Author.Tests.{lt-ltb, le-ltb}
 use lib.Dec.{eqb, leb, ltb}
-use lib.IntN.{ℤ}
-use lib.ListN.{length, getD}
-use Rattle.lists.specs.Has.{has}
-use Rattle.lists.specs.Keyed.{has-at, found-at, found-none}
-use Rattle.lists.specs.Seek.{seek}
-use Rattle.lists.specs.declared.Found.the-variants.{At, Nothing}
 use Rattle.positions.specs.Beyond.{isBeyond}
 use Rattle.holdings.specs.Limits.{isOver}
-use Rattle.memory.specs.Layout.{headerAt, codeAt, numberAt}
-use Rattle.memory.specs.Memory.{Holds}
 use Rattle.model.specs.Book.{Book, isMember, isListed}
 use Rattle.model.specs.Calls.{Trade, trade}
 use Rattle.model.specs.Effects.{traded}
 use Rattle.model.specs.Refusals.{needs, firstOf, isOpen, inHours, sideTotals}
 use Rattle.model.specs.Answers.{answered}
-use Rattle.standing.specs.Standing.{rowsOf}
 use Rattle.standing.specs.Made.{decided}
-use Rattle.standing.specs.Good.{Good}
-use Rattle.standing.specs.MemberLaws.{member-search, code-search}
-use Rattle.standing.specs.DealLaws.{Stands, Between}
+use Rattle.standing.specs.DealLaws.{Between}
+use Rattle.hours.specs.Searched.{has-here}
 use Rattle.dealing.specs.declared.Dealt.the-variants.{Refused}
 use Rattle.dealing.specs.Parties.{Answers, Ready}
-
--- ---- a search among the keys
-stands : (keys : List ℕ) (key place : ℕ) → seek (λ i. getD keys i 0) key (length keys) 0 ≡ At place → Stands keys key place
-stands keys key place e = let f = found-at keys key place e in record { below = f .0; here = f .1 .0 }
-
-module _ {b : Book} {c : List ℕ} {m : List ℤ} (g : Good b) (h : Holds c m (rowsOf b)) where
-  pub code-at : (code k : ℕ) → seek (codeAt c) code (headerAt c .listed) 0 ≡ At k → Stands (b .contracts .codes) code k
-  code-at code k e = stands (b .contracts .codes) code k (sym (code-search g h code) ∙ e)
-
-  pub code-none : (code : ℕ) → seek (codeAt c) code (headerAt c .listed) 0 ≡ Nothing → isListed b code ≡ false
-  code-none code e = found-none (b .contracts .codes) code (sym (code-search g h code) ∙ e)
-
-  pub number-at : (n i : ℕ) → seek (numberAt c) n (headerAt c .members) 0 ≡ At i → Stands (b .accounts .members) n i
-  number-at n i e = stands (b .accounts .members) n i (sym (member-search g h n) ∙ e)
-
-pub has-here : {keys : List ℕ} {key place : ℕ} → Stands keys key place → has key keys ≡ true
-has-here {keys} {key} {place} s = subst (λ n. has n keys ≡ true) (s .here) (has-at keys place (s .below))
 
 -- ---- the tests
 module _ (b : Book) (t : Trade) where

@@ -12,21 +12,7 @@ use Rattle.memory.specs.Layout.{Long, withHeader, contractAt, withContractCount
 use Rattle.model.specs.Calls.{Trade}
 use Rattle.model.specs.RangeLaws.{GoodTrade}
 use Rattle.standing.specs.DealLaws.{withTally}
-
--- the header at a time, after so many trades
-abbrev pub clocked : Header → ℕ → ℕ → Header
-clocked h time trades = record {
-  point = h .point;
-  day = h .day;
-  clock = time;
-  trades = trades;
-  reference = h .reference;
-  multiplier = h .multiplier;
-  exceptions = h .exceptions;
-  listed = h .listed;
-  settled = h .settled;
-  members = h .members;
-}
+use Rattle.hours.specs.Clocked.{clocked}
 
 -- a contract's row after a trade
 abbrev pub tradedRow : Contract → Trade → Contract

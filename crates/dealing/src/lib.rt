@@ -1,13 +1,9 @@
-// Trades and quotes: what each is refused for, and what an accepted one changes (document 01, 'Trade' and 'Settlement rate').
-mod hours;
+// Trades: what one is refused for, and what an accepted one changes (document 01, 'Trade').
 mod parties;
-mod quotes;
 mod sides;
 mod trades;
 
 use holdings::Totals;
-pub use hours::is_open;
-pub use quotes::quote;
 pub use trades::trade;
 
 // The numbers of a trade.

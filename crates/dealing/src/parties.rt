@@ -2,8 +2,8 @@
 ghost use Rattle.dealing.specs.Dealing.{tradeOf};
 ghost use Rattle.dealing.specs.Parties.{Headed, PartiesOf};
 use crate::Deal;
-use crate::hours::in_hours;
-use crate::hours::is_open;
+use hours::in_hours;
+use hours::is_open;
 use lists::Found;
 use memory::Header;
 use memory::find_account;

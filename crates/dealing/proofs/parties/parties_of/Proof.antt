@@ -18,8 +18,9 @@ use Rattle.standing.specs.Good.{Good}
 use Rattle.standing.specs.StandingLaws.{rows-shaped}
 use Rattle.standing.specs.MemberLaws.{member-none}
 use Rattle.standing.specs.DealLaws.{Stands, Between}
+use Rattle.hours.specs.Searched.{code-at, code-none, number-at, has-here}
 use Rattle.dealing.specs.Dealing.{tradeOf}
-use Rattle.dealing.specs.PartiesLaws.{code-at, code-none, number-at, has-here, shut, unlisted, no-buyer, no-seller, one-party, out-of-hours, too-early, full}
+use Rattle.dealing.specs.PartiesLaws.{shut, unlisted, no-buyer, no-seller, one-party, out-of-hours, too-early, full}
 use Rattle.dealing.proofs.parties.parties_of.Statement.{statement}
 use Rattle.dealing.proofs.parties.parties_of.Tie as tie
 

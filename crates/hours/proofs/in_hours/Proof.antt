@@ -1,7 +1,7 @@
 use native.Mathlib.Omega.{arith}
 use borrow.Author.Tests.{lt-ltb, le-ltb, lt-leb, le-leb}
-use Rattle.dealing.proofs.hours.in_hours.Statement.{statement}
-use Rattle.dealing.proofs.hours.in_hours.Tie as tie
+use Rattle.hours.proofs.in_hours.Statement.{statement}
+use Rattle.hours.proofs.in_hours.Tie as tie
 
 returns : tie.Need-returns
 returns c = let t = c .before .args .time in rw (lt-leb 32400 t (c .if1 .taken), lt-leb 48600 t (omega arith))

@@ -1,4 +1,4 @@
-// When trades and quotes are allowed.
+// When trades and quotes are allowed. What both find in the memory and write into it stands in specs/.
 ghost use mathlib.Core.Path.{_≡_};
 ghost use mathlib.Core.Bool.{_||_};
 ghost use lib.Dec.{eqb};
@@ -15,7 +15,7 @@ pub fn is_open(point: u64) -> bool
 }
 
 // From 9:00:00 to 12:00:00 and from 13:30:00 to 16:30:00, the first second in and the last out.
-pub(crate) fn in_hours(time: u64) -> bool
+pub fn in_hours(time: u64) -> bool
     ensures { λ r. ⌜ r ≡ inHours time ⌝ }
 {
     if time < 32400 {

@@ -1,8 +1,8 @@
 use mathlib.Core.Path.{sym, _∙_}
 use borrow.Author.Needs.{needs}
 use borrow.Author.Tests.{not-true, not-false}
-use Rattle.dealing.proofs.quotes.has_room.Statement.{statement}
-use Rattle.dealing.proofs.quotes.has_room.Tie as tie
+use Rattle.quoting.proofs.has_room.Statement.{statement}
+use Rattle.quoting.proofs.has_room.Tie as tie
 
 in-last-hour-requires : tie.Need-in-last-hour-requires
 in-last-hour-requires c κs = search needs

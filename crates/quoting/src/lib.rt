@@ -1,13 +1,13 @@
-// Quotes.
+// Quotes: what one is refused for, and what an accepted one changes (document 01, 'Settlement rate').
 ghost use mathlib.Core.Path.{_≡_};
 ghost use Prim.Native.Nat.{_<_};
 ghost use lib.ListN.{length};
 ghost use Rattle.model.specs.Calls.{quote as quoteCall};
 ghost use Rattle.model.specs.RangeLaws.{GoodQuote};
 ghost use Rattle.standing.specs.Made.{Sound, Made};
-ghost use Rattle.dealing.specs.Quotes.{hasRoom};
-use crate::hours::in_hours;
-use crate::hours::is_open;
+ghost use Rattle.quoting.specs.Quotes.{hasRoom};
+use hours::in_hours;
+use hours::is_open;
 use lists::Found;
 use memory::find_contract;
 use memory::load_contract;

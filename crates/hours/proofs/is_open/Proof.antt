@@ -1,6 +1,6 @@
 use borrow.Author.Tests.{eq-eqb, ne-eqb}
-use Rattle.dealing.proofs.hours.is_open.Statement.{statement}
-use Rattle.dealing.proofs.hours.is_open.Tie as tie
+use Rattle.hours.proofs.is_open.Statement.{statement}
+use Rattle.hours.proofs.is_open.Tie as tie
 
 returns : tie.Need-returns
 returns c = rw (eq-eqb (c .before .args .point) 2 (c .if1 .taken))

@@ -19,11 +19,11 @@ use Rattle.standing.specs.Standing.{headerRow}
 use Rattle.standing.specs.Good.{good}
 use Rattle.standing.specs.SoundLaws.{sound-long, sound-header, sound-listed}
 use Rattle.standing.specs.DealLaws.{Stands, withTally}
-use Rattle.dealing.specs.PartiesLaws.{code-at, code-none}
-use Rattle.dealing.specs.Quotes.{hasRoom, quotedRow}
-use Rattle.dealing.specs.QuoteLaws.{shut, unlisted, out-of-hours, too-early, full, done, row-small, contract-in, tally-sound, written}
-use Rattle.dealing.proofs.quotes.quote.Statement.{statement}
-use Rattle.dealing.proofs.quotes.quote.Tie as tie
+use Rattle.hours.specs.Searched.{code-at, code-none}
+use Rattle.quoting.specs.Quotes.{hasRoom, quotedRow}
+use Rattle.quoting.specs.QuoteLaws.{shut, unlisted, out-of-hours, too-early, full, done, row-small, contract-in, tally-sound, written}
+use Rattle.quoting.proofs.quote.Statement.{statement}
+use Rattle.quoting.proofs.quote.Tie as tie
 
 abbrev quotation : tie.Start → Quote
 quotation s = record { time = s .args .time; code = s .args .code; side = s .args .side; rate = s .args .rate }

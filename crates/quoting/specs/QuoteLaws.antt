@@ -24,10 +24,9 @@ use Rattle.standing.specs.StandingLaws.{made, refused-made}
 use Rattle.standing.specs.MemberLaws.{listed-row}
 use Rattle.standing.specs.SoundLaws.{sound-shaped, sound-header}
 use Rattle.standing.specs.DealLaws.{Stands, quoted-contract, quoted-rows}
-use Rattle.dealing.specs.Quotes.{hasRoom, quotedRow}
-use Rattle.dealing.specs.PartiesLaws.{has-here}
-use Rattle.dealing.specs.Written.{clocked}
-use Rattle.dealing.specs.WrittenLaws.{rows-written}
+use Rattle.hours.specs.Searched.{has-here}
+use Rattle.hours.specs.Clocked.{clocked, rows-written}
+use Rattle.quoting.specs.Quotes.{hasRoom, quotedRow}
 
 module _ {c : List ℕ} {m : List ℤ} (s : Sound c m) (q : Quote) where
   abbrev book : Book
