@@ -22,11 +22,11 @@ use Rattle.standing.specs.Good.{good}
 use Rattle.standing.specs.StandingLaws.{made}
 use Rattle.standing.specs.MemberLaws.{held-row}
 use Rattle.standing.specs.SoundLaws.{sound-shaped, none-left}
-use Rattle.keeping.specs.Places.{placeIn}
-use Rattle.keeping.specs.PlaceLaws.{Named, Names, refused-place, named}
+use Rattle.places.specs.Places.{placeIn}
+use Rattle.places.specs.PlaceLaws.{Named, Names, refused-place, named}
+use Rattle.places.specs.declared.Place.{Place}
+use Rattle.places.specs.declared.Place.the-variants.{Row, Refused}
 use Rattle.keeping.specs.Changes.{changed, changeCall}
-use Rattle.keeping.specs.declared.places.Place.{Place}
-use Rattle.keeping.specs.declared.places.Place.the-variants.{Row, Refused}
 use Rattle.keeping.specs.declared.members.Change.{Change}
 use Rattle.keeping.specs.declared.members.Change.the-variants.{Special, Coming}
 

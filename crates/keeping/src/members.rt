@@ -6,8 +6,6 @@ ghost use Rattle.holdings.specs.Bounds.{Granted};
 ghost use Rattle.model.specs.Calls.{enrol as enrolCall, setSpecial, setLimits};
 ghost use Rattle.standing.specs.Made.{Sound, Made};
 ghost use Rattle.keeping.specs.Changes.{changed, changeCall};
-use crate::places::Place;
-use crate::places::place_of;
 use accounts::new_account;
 use holdings::Holdings;
 use holdings::Limits;
@@ -19,6 +17,8 @@ use memory::load_account;
 use memory::load_header;
 use memory::store_account;
 use memory::store_header;
+use places::Place;
+use places::place_of;
 
 // A new account.
 pub fn enrol(counts: &mut [u64], money: &mut [i64], number: u64, limits: Limits) -> u64

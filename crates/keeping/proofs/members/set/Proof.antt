@@ -6,9 +6,9 @@ use Rattle.accounts.specs.Accounts.{withHoldings}
 use Rattle.memory.specs.declared.header_row.Header.{Header}
 use Rattle.memory.specs.Layout.{Long, headerAt}
 use Rattle.standing.specs.SoundLaws.{sound-long, sound-members}
-use Rattle.keeping.specs.Places.{placeIn}
+use Rattle.places.specs.Places.{placeIn}
+use Rattle.places.specs.declared.Place.the-variants.{Row}
 use Rattle.keeping.specs.ChangeLaws.{change-refused, changer, changed-made}
-use Rattle.keeping.specs.declared.places.Place.the-variants.{Row}
 use Rattle.keeping.proofs.members.set.Statement.{statement}
 use Rattle.keeping.proofs.members.set.Tie as tie
 

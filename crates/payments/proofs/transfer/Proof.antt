@@ -7,12 +7,12 @@ use Rattle.whole.specs.Amounts.{Amount, amount-pos}
 use Rattle.memory.specs.declared.header_row.Header.{Header}
 use Rattle.memory.specs.Layout.{Long, headerAt}
 use Rattle.standing.specs.SoundLaws.{sound-long, sound-members}
-use Rattle.keeping.specs.Places.{placeIn}
-use Rattle.keeping.specs.Payments.{mayPay, paidBy}
-use Rattle.keeping.specs.PaymentLaws.{pay-refused, payer, payer-sound, paid-made}
-use Rattle.keeping.specs.declared.places.Place.the-variants.{Row}
-use Rattle.keeping.proofs.payments.transfer.Statement.{statement}
-use Rattle.keeping.proofs.payments.transfer.Tie as tie
+use Rattle.places.specs.Places.{placeIn}
+use Rattle.places.specs.declared.Place.the-variants.{Row}
+use Rattle.payments.specs.Payments.{mayPay, paidBy}
+use Rattle.payments.specs.PaymentLaws.{pay-refused, payer, payer-sound, paid-made}
+use Rattle.payments.proofs.transfer.Statement.{statement}
+use Rattle.payments.proofs.transfer.Tie as tie
 
 abbrev start : tie.After-place-of → tie.Start
 start c = c .before .before .before .before .before .before

@@ -23,13 +23,13 @@ use Rattle.standing.specs.Good.{Good, good}
 use Rattle.standing.specs.StandingLaws.{made}
 use Rattle.standing.specs.MemberLaws.{funds-row}
 use Rattle.standing.specs.SoundLaws.{sound-shaped}
-use Rattle.keeping.specs.Places.{placeIn}
-use Rattle.keeping.specs.PlaceLaws.{Named, Names, refused-place, named}
-use Rattle.keeping.specs.Payments.{mayPay, paidBy, payCall, withFunds, countsPaid, moneyPaid}
-use Rattle.keeping.specs.declared.places.Place.{Place}
-use Rattle.keeping.specs.declared.places.Place.the-variants.{Row, Refused}
-use Rattle.keeping.specs.declared.payments.Way.{Way}
-use Rattle.keeping.specs.declared.payments.Way.the-variants.{In, Out, Back}
+use Rattle.places.specs.Places.{placeIn}
+use Rattle.places.specs.PlaceLaws.{Named, Names, refused-place, named}
+use Rattle.places.specs.declared.Place.{Place}
+use Rattle.places.specs.declared.Place.the-variants.{Row, Refused}
+use Rattle.payments.specs.Payments.{mayPay, paidBy, payCall, withFunds, countsPaid, moneyPaid}
+use Rattle.payments.specs.declared.Way.{Way}
+use Rattle.payments.specs.declared.Way.the-variants.{In, Out, Back}
 
 -- ---- by the way
 module _ (b : Book) (n : ℕ) (x : ℤ) where

@@ -1,6 +1,6 @@
 use borrow.Author.Needs.{needs}
-use Rattle.keeping.proofs.payments.may_pay.Statement.{statement}
-use Rattle.keeping.proofs.payments.may_pay.Tie as tie
+use Rattle.payments.proofs.may_pay.Statement.{statement}
+use Rattle.payments.proofs.may_pay.Tie as tie
 
 enum-told : tie.Need-enum-told
 enum-told c = search needs

@@ -4,8 +4,8 @@ use mir.Syntax.{w64}
 use mir.Val.{toZ, ofZ}
 use Rattle.whole.specs.Machine.{arg}
 use Rattle.whole.specs.Amounts.{amount-within}
-use Rattle.keeping.proofs.payments.paid.Statement.{statement}
-use Rattle.keeping.proofs.payments.paid.Tie as tie
+use Rattle.payments.proofs.paid.Statement.{statement}
+use Rattle.payments.proofs.paid.Tie as tie
 
 amount : (s : tie.Start) → toZ w64 (ofZ w64 (s .args .amount)) ≡ s .args .amount
 amount s = arg (amount-within (s .pre .1)) tt .eq

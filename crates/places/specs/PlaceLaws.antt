@@ -21,9 +21,9 @@ use Rattle.standing.specs.Good.{Good, good}
 use Rattle.standing.specs.StandingLaws.{refused-made}
 use Rattle.standing.specs.MemberLaws.{member-at, member-none, member-account}
 use Rattle.standing.specs.SoundLaws.{sound-header, first-passed, first-failed}
-use Rattle.keeping.specs.Places.{placeIn}
-use Rattle.keeping.specs.declared.places.Place.{Place}
-use Rattle.keeping.specs.declared.places.Place.the-variants.{Row, Refused}
+use Rattle.places.specs.Places.{placeIn}
+use Rattle.places.specs.declared.Place.{Place}
+use Rattle.places.specs.declared.Place.the-variants.{Row, Refused}
 
 -- the row of the member that a call names; the tests after the first two decide the call
 pub record Named (b : Book) (c : List ℕ) (m : List ℤ) (call : Call) (rest : List ℕ) (n i : ℕ) : Type 0 where

@@ -1,4 +1,5 @@
-// Calls that name one account and move its money: pay in, pay out and release.
+// Calls that name one account and move its money: pay in, pay out and release (document 01, 'The day'). Each answers the number of
+// its refusal, 0 where it is accepted.
 ghost use mathlib.Core.Path.{_≡_};
 ghost use Prim.Native.Nat.{_<_, _≤_};
 ghost use lib.IntN.{pos};
@@ -8,15 +9,15 @@ ghost use Rattle.funds.specs.Funds.{refusalOf};
 ghost use Rattle.memory.specs.Layout.{Long};
 ghost use Rattle.model.specs.Calls.{payIn, payOut, release as releaseCall};
 ghost use Rattle.standing.specs.Made.{Sound, Made};
-ghost use Rattle.keeping.specs.Payments.{mayPay, paidBy, payCall, countsPaid, moneyPaid};
-use crate::places::Place;
-use crate::places::place_of;
+ghost use Rattle.payments.specs.Payments.{mayPay, paidBy, payCall, countsPaid, moneyPaid};
 use accounts::Account;
 use funds::Funds;
 use funds::Payment;
 use memory::load_account;
 use memory::load_header;
 use memory::store_account;
+use places::Place;
+use places::place_of;
 
 // Into the cash, out of it, or from margin to cash.
 enum Way {

@@ -3,7 +3,7 @@ ghost use mathlib.Core.Path.{_≡_};
 ghost use Prim.Native.Nat.{_≤_};
 ghost use lib.ListN.{length};
 ghost use Rattle.memory.specs.Layout.{countsLong, headerAt};
-ghost use Rattle.keeping.specs.Places.{placeIn};
+ghost use Rattle.places.specs.Places.{placeIn};
 use lists::Found;
 use memory::find_account;
 
@@ -13,7 +13,7 @@ pub enum Place {
     Refused(u64),
 }
 
-pub(crate) fn place_of(counts: &[u64], allowed: bool, number: u64) -> Place
+pub fn place_of(counts: &[u64], allowed: bool, number: u64) -> Place
     requires { ⌜ (length (now counts) ≡ countsLong) × (headerAt (now counts) .members ≤ 64) ⌝ }
     ensures { λ r. ⌜ r ≡ placeIn (now (counts .entry)) allowed number ⌝ }
 {

@@ -11,8 +11,8 @@ use Rattle.funds.specs.declared.Payment.the-variants.{Made, InDefault, TooMuch,
 use Rattle.accounts.specs.declared.Account.{Account}
 use Rattle.memory.specs.Layout.{withAccountCounts, withAccountMoney}
 use Rattle.model.specs.Calls.{Call, payIn, payOut, release}
-use Rattle.keeping.specs.declared.payments.Way.{Way}
-use Rattle.keeping.specs.declared.payments.Way.the-variants.{In, Out, Back}
+use Rattle.payments.specs.declared.Way.{Way}
+use Rattle.payments.specs.declared.Way.the-variants.{In, Out, Back}
 
 -- ---- by the way
 abbrev pub mayPay : Way → ℕ → Bool

@@ -2,8 +2,8 @@ use mathlib.Core.Path.{_≡_, sym, _∙_}
 use mathlib.Core.Bool.{true}
 use borrow.Author.Needs.{needs}
 use borrow.Author.Tests.{not-true, not-false}
-use Rattle.keeping.proofs.places.place_of.Statement.{statement}
-use Rattle.keeping.proofs.places.place_of.Tie as tie
+use Rattle.places.proofs.place_of.Statement.{statement}
+use Rattle.places.proofs.place_of.Tie as tie
 
 allowed : (c : tie.Else1) → c .before .before .args .allowed ≡ true
 allowed c = not-false (c .before .before .args .allowed) (c .if1 .left)

@@ -4,8 +4,8 @@ use mathlib.Core.List.{List}
 use Prim.Native.Nat.{ℕ}
 use Rattle.lists.specs.Seek.{seek, onFound}
 use Rattle.memory.specs.Layout.{headerAt, numberAt}
-use Rattle.keeping.specs.declared.places.Place.{Place}
-use Rattle.keeping.specs.declared.places.Place.the-variants.{Row, Refused}
+use Rattle.places.specs.declared.Place.{Place}
+use Rattle.places.specs.declared.Place.the-variants.{Row, Refused}
 
 -- refused 3 where the call is not allowed at this point of the day, 5 where the account is unknown
 abbrev pub placeIn : List ℕ → Bool → ℕ → Place

@@ -1,7 +1,7 @@
 use mathlib.Core.Path.{refl}
 use borrow.Author.Needs.{needs}
-use Rattle.keeping.proofs.payments.pay.Statement.{statement}
-use Rattle.keeping.proofs.payments.pay.Tie as tie
+use Rattle.payments.proofs.pay.Statement.{statement}
+use Rattle.payments.proofs.pay.Tie as tie
 
 enum-known-payment : tie.Need-enum-known-payment
 enum-known-payment c = search needs
