@@ -12,7 +12,7 @@ use Rattle.standing.specs.DealLaws.{Stands}
 use Rattle.standing.specs.MemberLaws.{member-none}
 use Rattle.standing.specs.SoundLaws.{sound-long, sound-members, sound-listed}
 use Rattle.dealing.specs.Dealing.{tradeOf}
-use Rattle.dealing.specs.PartiesLaws.{code-at, code-none, number-at, has-here}
+use Rattle.hours.specs.Searched.{code-at, code-none, number-at, has-here}
 use Rattle.particulars.specs.AskedLaws.{open-is, asked-shut, asked-unlisted, asked-unknown, asked-totals}
 use Rattle.particulars.proofs.proposed.asked.Statement.{statement}
 use Rattle.particulars.proofs.proposed.asked.Tie as tie
