@@ -1,6 +1,5 @@
 -- Short texts of an explanation.
 use Prim.Native.Nat.{_≤_}
-use lib.ListN.{length}
 use Rattle.pages.specs.declared.pieces.Piece.{Piece}
 
 -- a text within its 48 bytes
