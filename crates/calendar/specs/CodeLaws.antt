@@ -1,11 +1,11 @@
 -- The codes of a listing: their months, that none comes twice, and which stay from a day to the next that is opened.
 use mathlib.Core.Path.{_≡_, refl, sym, _∙_, ap, subst}
-use mathlib.Core.Bool.{Bool, true, false, not, cond, _||_, and-eq-true-iff}
+use mathlib.Core.Bool.{Bool, true, false, not, cond, _||_}
 use mathlib.Core.List.{List, [], _∷_, _++_, map, append-nil}
 use Prim.Native.Nat.{ℕ, zero, suc, _+_, _-_, _≤_, _<_}
 use native.Mathlib.Decide.{decLt}
 use native.Mathlib.Omega.{arith}
-use borrow.Author.Tests.{ltb-true, ltb-false, eqb-true, eqb-false, lt-ltb, le-ltb, le-leb, eq-eqb, ne-eqb}
+use borrow.Author.Tests.{ltb-false, eqb-true, eqb-false, lt-ltb, le-ltb, le-leb, eq-eqb}
 use lib.Dec.{eqb, ltb}
 use lib.ListN.{length, length-map}
 use Rattle.lists.specs.Has.{has}
@@ -15,26 +15,17 @@ use Rattle.lists.specs.Rows.{map-append}
 use Rattle.days.specs.declared.Day.{Day}
 use Rattle.days.specs.declared.Day.the-variants.{On, NoDay}
 use Rattle.days.specs.Days.{rising, risingAfter, nextWorking, accepted, isOn, isNoDay}
-use Rattle.days.specs.DayLaws.{First, Last, first-of, last-of}
+use Rattle.days.specs.DayLaws.{rising-step, rising-below, First, Last, first-of, last-of}
 use Rattle.months.specs.Months.{codeOf, settlementDay, lastTradingDay, ofMonth, lastTradingOf}
 use Rattle.calendar.specs.Listing.{settlesAfter, isListed, settles, listedMonths, unknown, listing}
 use Rattle.months.specs.MonthLaws.{codes-rise, month-of, settles-from, settles-first, settles-rise, trades-before}
 use Rattle.calendar.specs.ListingLaws.{listed-after, listed-trades, stays-listed, six-listed, listed-rise, known-settles}
 
 -- ---- a rising list has no number twice
-rising-below : (k e : ℕ) (l : List ℕ) → k ≤ e → risingAfter e l ≡ true → has k l ≡ false
-unfolding risingAfter has
-rising-below k e [] h r = refl
-rising-below k e (f ∷ l) h r =
-    let p = and-eq-true-iff (ltb e f) (risingAfter f l) .0 r in
-    let q = ltb-true e f (p .0) in
-    rw (ne-eqb k f (omega arith)) (rising-below k f l (omega arith) (p .1))
-
 distinct-after : (e : ℕ) (l : List ℕ) → risingAfter e l ≡ true → Distinct l
-unfolding risingAfter
 distinct-after e [] r = tt
 distinct-after e (f ∷ l) r =
-    let p = and-eq-true-iff (ltb e f) (risingAfter f l) .0 r in
+    let p = rising-step e f l r in
     (rising-below f f l (omega arith) (p .1), distinct-after f l (p .1))
 
 rising-distinct : (l : List ℕ) → rising l ≡ true → Distinct l

@@ -1,19 +1,22 @@
 -- What follows for days: the steps by which the code walks, what a search finds, and breaks of days off.
-use mathlib.Core.Path.{_≡_, refl, sym, ap, _∙_}
-use mathlib.Core.Bool.{Bool, true, false, _&&_, not, cond, false≢true}
+use mathlib.Core.Path.{_≡_, refl, sym, ap, ap₂, _∙_, subst}
+use mathlib.Core.Bool.{Bool, true, false, _&&_, _||_, not, cond, false≢true, and-eq-true-iff, or-false}
 use mathlib.Core.List.{List, [], _∷_}
 use Prim.Native.Nat.{ℕ, zero, suc, _+_, _-_, _≤_, _<_}
-use native.Mathlib.Numerals.{add-one}
+use native.Mathlib.Numerals.{add-one, unary-clauses}
 use native.Mathlib.Decide.{decLt}
 use native.Mathlib.Omega.{arith}
 use lib.ListN.{length, getD, drop, drop-of-length-le}
 use lib.Seq.{drop-cons}
-use borrow.Author.Tests.{lt-ltb, le-ltb, eq-eqb, ne-eqb}
+use borrow.Author.Tests.{ltb-true, lt-ltb, le-ltb, ne-eqb}
+use lib.Dec.{eqb, ltb}
+use Rattle.lists.specs.Has.{has}
+use Rattle.lists.specs.HasLaws.{eqb-flip}
 use Rattle.days.specs.declared.Day.{Day}
 use Rattle.days.specs.declared.Day.the-variants.{On, NoDay}
 use Rattle.days.specs.Days.{days, isException, rising, risingAfter, firstWorking, nextWorking, lastWorking, isNoDay, isLongBreak, noLongBreak, accepted}
 
--- ---- exceptions, walked from the front: what is left decides
+-- ---- whether a list rises, walked from the front: what is left decides
 
 pub rising-empty : (e : List ℕ) → length e ≡ 0 → rising e ≡ true
 unfolding rising
@@ -38,18 +41,79 @@ module _ (last : ℕ) (e : List ℕ) (i : ℕ) where
   unfolding risingAfter
   rising-end h = rw (drop-of-length-le e h)
 
-module _ (e : List ℕ) (i d : ℕ) where
-  pub exception-hit : i < length e → getD e i 0 ≡ d → isException (drop i e) d ≡ true
-  unfolding isException
-  exception-hit h k = rw (drop-cons e i 0 h, eq-eqb (getD e i 0) d k)
+-- ---- a list that rises: nothing below its first, nothing above its last
 
-  pub exception-miss : i < length e → (getD e i 0 ≡ d → ⊥) → isException (drop i e) d ≡ isException (drop (i + 1) e) d
-  unfolding isException
-  exception-miss h k = rw (drop-cons e i 0 h, ne-eqb (getD e i 0) d k, add-one)
+-- what rises past e begins above e, and its rest rises past its first
+pub rising-step : (e f : ℕ) (l : List ℕ) → risingAfter e (f ∷ l) ≡ true → (e < f) × (risingAfter f l ≡ true)
+unfolding risingAfter
+rising-step e f l r = let p = and-eq-true-iff (ltb e f) (risingAfter f l) .0 r in (ltb-true e f (p .0), p .1)
 
-  pub exception-end : length e ≤ i → isException (drop i e) d ≡ false
+pub rising-below : (k e : ℕ) (l : List ℕ) → k ≤ e → risingAfter e l ≡ true → has k l ≡ false
+unfolding has
+rising-below k e [] h r = refl
+rising-below k e (f ∷ l) h r =
+    let p = rising-step e f l r in
+    rw (ne-eqb k f (omega arith)) (rising-below k f l (omega arith) (p .1))
+
+rising-above : (k e : ℕ) (l : List ℕ) → getD (e ∷ l) (length l) 0 < k → risingAfter e l ≡ true → (e < k) × (has k (e ∷ l) ≡ false)
+unfolding has
+rising-above k e [] h r = (h, rw (ne-eqb k e (omega arith)))
+rising-above k e (f ∷ l) h r =
+    let p = rising-step e f l r in
+    let q = rising-above k f l h (p .1) in
+    (omega arith, rw (ne-eqb k e (omega arith)) (q .1))
+
+rising-rest : (e : ℕ) (l : List ℕ) → risingAfter e l ≡ true → rising l ≡ true
+unfolding rising
+rising-rest e [] r = refl
+rising-rest e (f ∷ l) r = rising-step e f l r .1
+
+-- ---- an exception, looked up where they rise
+
+exception-has : (e : List ℕ) (d : ℕ) → isException e d ≡ has d e
+unfolding isException has
+exception-has [] d = refl
+exception-has (x ∷ e) d = ap₂ _||_ (eqb-flip x d) (exception-has e d)
+
+pub exception-none : (e : List ℕ) (d : ℕ) → length e ≡ 0 → isException e d ≡ false
+unfolding isException
+exception-none [] d h = refl
+exception-none (x ∷ e) d h = absurd (omega arith)
+
+-- no day past the last is one
+pub exception-past : (e : List ℕ) (d : ℕ) → (length e ≡ 0 → ⊥) → rising e ≡ true → getD e (length e - 1) 0 < d → isException e d ≡ false
+unfolding rising
+exception-past [] d n r h = absurd (n refl)
+exception-past (x ∷ e) d n r h = exception-has (x ∷ e) d ∙ rising-above d x e (simp unary-clauses at h) r .1
+
+module _ (e : List ℕ) (i d : ℕ) (h : i < length e) where
+  -- one that is smaller than the day is not the last, where the last is not smaller
+  pub exception-next : getD e i 0 < d → d ≤ getD e (length e - 1) 0 → i + 1 < length e
+  exception-next k l = go (decLt (i + 1) (length e))
+    where
+      go : Dec (i + 1 < length e) → i + 1 < length e
+      go (yes u) = u
+      go (no u) = let z : i ≡ length e - 1 = omega arith in absurd (omega (arith, ap (λ n. getD e n 0) z))
+
+  -- and what is left without it decides
+  pub exception-miss : getD e i 0 < d → isException (drop i e) d ≡ isException (drop (i + 1) e) d
   unfolding isException
-  exception-end h = rw (drop-of-length-le e h)
+  exception-miss k = rw (drop-cons e i 0 h, ne-eqb (getD e i 0) d (omega arith), add-one)
+
+module _ (e : List ℕ) (i : ℕ) (h : i < length e) (r : rising (drop i e) ≡ true) where
+  rises-from : risingAfter (getD e i 0) (drop (suc i) e) ≡ true
+  unfolding rising
+  rises-from = subst (λ l. rising l ≡ true) (drop-cons e i 0 h) r
+
+  pub rises-on : rising (drop (i + 1) e) ≡ true
+  rises-on = rw add-one (rising-rest (getD e i 0) (drop (suc i) e) rises-from)
+
+  -- the first that is not smaller than the day decides
+  pub exception-first : (d : ℕ) → d ≤ getD e i 0 → isException (drop i e) d ≡ eqb (getD e i 0) d
+  unfolding has
+  exception-first d k =
+      exception-has (drop i e) d
+      ∙ rw (drop-cons e i 0 h, rising-below d (getD e i 0) (drop (suc i) e) k rises-from, eqb-flip d (getD e i 0)) (or-false (eqb (getD e i 0) d))
 
 -- ---- searches, day by day
 

@@ -33,20 +33,23 @@ pub fn are_rising(exceptions: &[u64]) -> bool
     true
 }
 
-// Walks all exceptions. The contract asks that they rise, so that a shorter walk can take its place under it.
+// They rise, so no day past the last is among them, and the walk for any other stops at the first that is not smaller.
 fn is_exception(exceptions: &[u64], day: u64) -> bool
     requires { ⌜ rising (now exceptions) ≡ true ⌝ }
     ensures { λ r. ⌜ r ≡ isException (now (exceptions .entry)) day ⌝ }
 {
-    let mut found = false;
+    let count = exceptions.len();
+    if count == 0 {
+        return false;
+    }
+    if exceptions[count - 1] < day {
+        return false;
+    }
     let mut i: usize = 0;
-    while i < exceptions.len() {
-        if exceptions[i] == day {
-            found = true;
-        }
+    while exceptions[i] < day {
         i += 1;
     }
-    found
+    exceptions[i] == day
 }
 
 fn is_weekend(day: u64) -> bool
