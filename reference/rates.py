@@ -1,7 +1,7 @@
 """Settlement rates by document 01, 'Settlement rate', reckoned from whole lists of trades and quotes with exact fractions. It
 shares nothing with the Rattle code.
 
-    python3 reference/rates.py vectors FOLDER    checks each rate line of the event files in FOLDER, ../shared/vectors
+    python3 reference/rates.py vectors FOLDER    checks each rate line of the event files in FOLDER, ../shared/vectors/base
 """
 from datetime import timedelta
 from fractions import Fraction

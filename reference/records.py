@@ -5,7 +5,7 @@ program `readback` reads and must write is made here.
     python3 reference/records.py readback < TESTS     prints what document 01 makes of each: crates/readback/stdout
 
 A test is an event file in hex, or `w`, a room's size, a kind, thirteen fields and exceptions: a record to be written. FOLDER,
-../shared/vectors, has event files, of which those named bytes-*.events and ends-*.events are tests too.
+../shared/vectors/base, has event files, of which those named bytes-*.events and ends-*.events are tests too.
 """
 import re
 import sys

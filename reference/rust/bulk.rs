@@ -1,5 +1,6 @@
 //! Big event files. Those for measuring speed have accepted records only.
 
+use crate::calendar::LAST_DAY;
 use crate::random::Random;
 use crate::records::*;
 use crate::script::Script;
@@ -38,6 +39,22 @@ pub fn years(days: u64) -> Vec<u8> {
         trades_and_quotes(&mut script, 200, 200);
         let final_rate = script.random.between(22_000, 24_000);
         accepted(&mut script, CLOSE, &[final_rate]);
+    }
+    script.bytes
+}
+
+/// Days that only open and close under a calendar with as many exceptions as one may have: the first exception, and the step to each next.
+pub fn opens(first: i64, step: usize) -> Vec<u8> {
+    const EXCEPTIONS: i64 = 400;
+    let exceptions: Vec<u64> = (first as u64..).step_by(step).take(EXCEPTIONS as usize).collect();
+    let mut script = Script::new(4);
+    assert!(script.send_start(3_000_000, 120, &exceptions), "the calendar was refused");
+    // Room for all exceptions before the days, or behind them.
+    for day in EXCEPTIONS..=LAST_DAY - EXCEPTIONS {
+        if script.book.calendar.is_working(day) {
+            open(&mut script, day);
+            accepted(&mut script, CLOSE, &[23_000]);
+        }
     }
     script.bytes
 }
@@ -82,7 +99,11 @@ fn any_account(random: &mut Random) -> i64 {
 
 fn open_day(script: &mut Script) {
     let day = script.book.calendar.next_working_day(script.book.day.max(FIRST_DAY));
-    let mut values = vec![day.unwrap_or(0)];
+    open(script, day.unwrap_or(0));
+}
+
+fn open(script: &mut Script, day: i64) {
+    let mut values = vec![day];
     values.extend([23_000; 6]);
     values.extend([3_000_000; 6]);
     accepted(script, OPEN, &values);

@@ -4,6 +4,9 @@
 //!     generate FIRST LAST DIR    DIR/SEED.events for each seed
 //!     generate busy OUT [DAYS]   days with full tables of trades and quotes
 //!     generate years OUT [DAYS]  a long row of middling days
+//!     generate early OUT         days that only open and close, with 400 exceptions that all come before them
+//!     generate spread OUT        the same with exceptions over the whole calendar
+//!     generate late OUT          and with exceptions that all come after them
 //!     generate refusals OUT      days with about a thousand refused trades of one account
 //!
 //! A seed alone decides its file.
@@ -46,6 +49,9 @@ fn run(words: &[&str]) -> io::Result<()> {
         ["busy", out, days] => std::fs::write(out, bulk::busy(number(days)?)),
         ["years", out] => std::fs::write(out, bulk::years(1_300)),
         ["years", out, days] => std::fs::write(out, bulk::years(number(days)?)),
+        ["early", out] => std::fs::write(out, bulk::opens(0, 1)),
+        ["spread", out] => std::fs::write(out, bulk::opens(0, 9)),
+        ["late", out] => std::fs::write(out, bulk::opens(3_253, 1)),
         ["refusals", out] => std::fs::write(out, bulk::refusals()),
         [seed] => io::stdout().write_all(&event_file(number(seed)?)),
         [first, last, dir] => {
@@ -55,7 +61,7 @@ fn run(words: &[&str]) -> io::Result<()> {
             Ok(())
         }
         _ => Err(io::Error::other(
-            "usage: SEED | FIRST LAST DIR | busy OUT [DAYS] | years OUT [DAYS] | refusals OUT",
+            "usage: SEED | FIRST LAST DIR | busy OUT [DAYS] | years OUT [DAYS] | early OUT | spread OUT | late OUT | refusals OUT",
         )),
     }
 }
