@@ -43,9 +43,11 @@ pub fn years(days: u64) -> Vec<u8> {
     script.bytes
 }
 
-/// Days that only open and close under a calendar with as many exceptions as one may have: the first exception, and the step to each next.
+/// As many exceptions as a calendar may have.
+pub const EXCEPTIONS: i64 = 400;
+
+/// Days that only open and close. Their calendar has its first exception on the day `first`, and each next one `step` days later.
 pub fn opens(first: i64, step: usize) -> Vec<u8> {
-    const EXCEPTIONS: i64 = 400;
     let exceptions: Vec<u64> = (first as u64..).step_by(step).take(EXCEPTIONS as usize).collect();
     let mut script = Script::new(4);
     assert!(script.send_start(3_000_000, 120, &exceptions), "the calendar was refused");

@@ -51,7 +51,7 @@ fn run(words: &[&str]) -> io::Result<()> {
         ["years", out, days] => std::fs::write(out, bulk::years(number(days)?)),
         ["early", out] => std::fs::write(out, bulk::opens(0, 1)),
         ["spread", out] => std::fs::write(out, bulk::opens(0, 9)),
-        ["late", out] => std::fs::write(out, bulk::opens(3_253, 1)),
+        ["late", out] => std::fs::write(out, bulk::opens(calendar::LAST_DAY + 1 - bulk::EXCEPTIONS, 1)),
         ["refusals", out] => std::fs::write(out, bulk::refusals()),
         [seed] => io::stdout().write_all(&event_file(number(seed)?)),
         [first, last, dir] => {
