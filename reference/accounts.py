@@ -2,7 +2,7 @@
 exact fractions. It shares nothing with the Rattle code.
 
     python3 reference/accounts.py vectors FOLDER    checks the account and house lines and the refusals of the event files in
-                                                    FOLDER, ../shared/vectors/base
+                                                    FOLDER, of ../shared/vectors
 """
 from collections import Counter
 from copy import deepcopy

@@ -1,7 +1,7 @@
 """The model of crates/model/specs, computed by the prover on event files and held to the output that they should give. To be
 run after a change of the model's definitions; the gate does not run it.
 
-    python3 reference/model.py FOLDER [NAME ..]     computes the event files of FOLDER, ../shared/vectors/base: all, or those named
+    python3 reference/model.py FOLDER [NAME ..]     computes the event files of FOLDER, of ../shared/vectors: all, or those named
 
 For each file a spec is written that goes through its records a few at a time. Between them the book stands as a table, which
 the scripts of this folder propose from the records that the output calls accepted. The prover computes each part from the

@@ -1,10 +1,11 @@
-"""Settlement rates by document 01, 'Settlement rate', reckoned from whole lists of trades and quotes with exact fractions. It
-shares nothing with the Rattle code.
+"""Settlement rates by document 01, 'Settlement rate', with request L1's ties, reckoned from whole lists of trades and quotes
+with exact fractions. It shares nothing with the Rattle code.
 
-    python3 reference/rates.py vectors FOLDER    checks each rate line of the event files in FOLDER, ../shared/vectors/base
+    python3 reference/rates.py vectors FOLDER    checks each rate line of the event files in FOLDER, of ../shared/vectors
 """
 from datetime import timedelta
 from fractions import Fraction
+from math import floor
 from typing import NamedTuple
 
 # Of this folder.
@@ -50,12 +51,9 @@ def mean(quotes):
     return Fraction(sum(q.rate for q in quotes), len(quotes))
 
 
-# "One rounding at the end, to nearest, ties away from zero (house)."
+# "One rounding at the end, to nearest" (document 01); "ties go towards the higher rate, also below zero" (request L1).
 def rounded(exact):
-    size = abs(exact)
-    below = size.numerator // size.denominator
-    nearest = below if size - below < Fraction(1, 2) else below + 1
-    return nearest if exact > 0 else -nearest
+    return floor(exact + Fraction(1, 2))
 
 
 # A contract's day: its accepted trades and quotes in the order of acceptance.

@@ -535,7 +535,7 @@ fn middle_of_quotes(bids: &[i64], offers: &[i64]) -> i64 {
     divide_to_nearest(bid_sum * offer_count + offer_sum * bid_count, 2 * bid_count * offer_count)
 }
 
-/// To nearest, ties away from zero.
+/// To nearest, ties to the higher number, also below zero: the whole number at or below the quotient and a half.
 fn divide_to_nearest(numerator: i64, denominator: i64) -> i64 {
-    numerator.signum() * ((2 * numerator.abs() + denominator) / (2 * denominator))
+    (2 * numerator + denominator).div_euclid(2 * denominator)
 }

@@ -138,8 +138,8 @@ pub record Marked : Type 0 where
   pub lists : listing plain 1386 ≡ record { known = true; codes = 2311 ∷ 2312 ∷ 2401 ∷ 2403 ∷ 2406 ∷ 2409 ∷ [] }
   -- 6. "Lots 2 at 1, 1 at 1, three of 1 at 0: mean 0.5, rate 1."
   pub half-up : ratedBy (fiveTrades (pos 1)) [] ≡ record { rate = pos 1; rule = LastHour; used = 5 }
-  -- 7. "The same with -1: rate -1."
-  pub half-down : ratedBy (fiveTrades (negℤ (pos 1))) [] ≡ record { rate = negℤ (pos 1); rule = LastHour; used = 5 }
+  -- 7. "The same with -1: rate -1." Request L1: "Marked example 7 becomes 0."
+  pub half-below-zero : ratedBy (fiveTrades (negℤ (pos 1))) [] ≡ record { rate = pos 0; rule = LastHour; used = 5 }
   -- 8. "Bids 10, 11, offer 12: 11.25, rate 11."
   pub mean-quotes :
       ratedBy [] (quoteOf 0 (pos 10) ∷ quoteOf 0 (pos 11) ∷ quoteOf 1 (pos 12) ∷ []) ≡ record { rate = pos 11; rule = Quotes; used = 3 }

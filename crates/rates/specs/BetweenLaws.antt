@@ -9,7 +9,6 @@ use lib.Signed.{_≤ℤ_, ≤ℤ-refl}
 use Rattle.lists.specs.All.{All, none-left, and-more, all-weaken, all-split, all-map}
 use Rattle.whole.specs.Larger.{larger, smaller, larger-above, smaller-below}
 use Rattle.whole.specs.Order.{≤ℤ-trans, pos-nonneg, +ℤ-mono, *ℤ-mono}
-use Rattle.whole.specs.Parts.{parts₃, ring, zarith}
 use Rattle.whole.specs.Ring.{add-mulℤ}
 use Rattle.whole.specs.Round.{onTie}
 use Rattle.whole.specs.RoundLaws.{onTie-rule, rounded-least, rounded-most}
@@ -18,7 +17,7 @@ use Rattle.tallies.specs.Means.{byLots, meanOf, once, total, worth}
 use Rattle.tallies.specs.Day.{Trade, Quote, lateTrades, lastFive, bidsOf, offersOf}
 use Rattle.tallies.specs.declared.Weighted.{Weighted}
 use Rattle.tallies.specs.declared.Mean.{Mean}
-use Rattle.rates.specs.ExactLaws.{halfway-weighs}
+use Rattle.rates.specs.ExactLaws.{halfway-times, halfway-weighs}
 use Rattle.rates.specs.Rules.{halfway, nearest}
 use Rattle.rates.specs.Rules.{numberOf, ruleOf, usedBy, rateBy, settled}
 use Rattle.rates.specs.CountLaws.{Weighs, rule-weighs}
@@ -54,11 +53,8 @@ module _ (lo hi : ℤ) where
   halfway-between : (a b : Mean) → MeanBetween a → MeanBetween b → MeanBetween (halfway a b)
   unfolding halfway
   halfway-between a b h k =
-      rw (twice (pos (a .weight)) (pos (b .weight)) lo, twice (pos (a .weight)) (pos (b .weight)) hi)
+      rw (halfway-times (pos (a .weight)) (pos (b .weight)) lo, halfway-times (pos (a .weight)) (pos (b .weight)) hi)
       (between-+ (between-* (b .weight) h) (between-* (a .weight) k))
-    where
-      twice : (x y z : ℤ) → (pos 2 *ℤ (x *ℤ y)) *ℤ z ≡ (x *ℤ z) *ℤ y +ℤ (y *ℤ z) *ℤ x
-      twice x y z = parts₃ x y z (λ p q r. simp (p .is, q .is, r .is, ring) (omega zarith))
 
   nearest-between : (m : Mean) → 0 < m .weight → MeanBetween m → Between lo hi (nearest m)
   nearest-between m h b = record {

@@ -5,6 +5,7 @@ use native.Mathlib.Nat.{mul-le-mul}
 use native.Mathlib.Omega.{arith}
 use lib.IntN.{ℤ, pos, _+ℤ_, _*ℤ_, *ℤ-comm}
 use Rattle.whole.specs.Expand.{*ℤ-left, expand}
+use Rattle.whole.specs.Parts.{parts₃, ring, zarith}
 use Rattle.whole.specs.Round.{onTie}
 use Rattle.whole.specs.RoundLaws.{onTie-scaled, rounded-same}
 use Rattle.whole.specs.Within.{lit, widen, within-+, within-*}
@@ -43,6 +44,10 @@ pub halfway-crossed : (a b : Mean) → let m = halfway a b in
 unfolding halfway
 halfway-crossed a b =
     *ℤ-left (pos 2) (a .sum *ℤ pos (b .weight) +ℤ b .sum *ℤ pos (a .weight)) (pos (a .weight * b .weight))
+
+-- Its weight times a number: what each mean's weight times the number adds to its sum.
+pub halfway-times : (a b x : ℤ) → (pos 2 *ℤ (a *ℤ b)) *ℤ x ≡ (a *ℤ x) *ℤ b +ℤ (b *ℤ x) *ℤ a
+halfway-times a b x = parts₃ a b x (λ p q r. simp (p .is, q .is, r .is, ring) (omega zarith))
 
 pub nearest-same : (a b : Mean) → 0 < a .weight → 0 < b .weight → a .sum *ℤ pos (b .weight) ≡ b .sum *ℤ pos (a .weight)
     → nearest a ≡ nearest b

@@ -42,8 +42,8 @@ pub example-6 : settled (half (pos 1)) [] (pos 0) false (pos 0) ≡ by LastHour 
 unfolding settled ruleAt those inLastHour meanOf total sumZ nearestSize withSign
 example-6 = refl
 
--- "The same with -1: rate -1."
-pub example-7 : settled (half (negsuc 0)) [] (pos 0) false (pos 0) ≡ by LastHour (negsuc 0) 5
+-- "The same with -1: rate -1." Request L1: "Marked example 7 becomes 0."
+pub example-7 : settled (half (negsuc 0)) [] (pos 0) false (pos 0) ≡ by LastHour (pos 0) 5
 unfolding settled ruleAt those inLastHour meanOf total sumZ nearestSize withSign
 example-7 = refl
 

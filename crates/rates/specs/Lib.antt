@@ -5,5 +5,5 @@ pub mod ExactLaws
 pub mod RuleLaws
 pub mod BetweenLaws
 pub mod OrderLaws
-pub mod MirrorLaws
+pub mod ShiftLaws
 pub mod Examples

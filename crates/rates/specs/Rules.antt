@@ -23,7 +23,8 @@ halfway a b = record {
   weight = 2 * (a .weight * b .weight);
 }
 
--- "One rounding at the end, to nearest, ties away from zero (house)."
+-- "One rounding at the end, to nearest, ties away from zero (house)." Request L1: "The trading centre's ties go towards the
+-- higher rate, also below zero". Round in `whole` has what that means.
 abbrev pub nearest : Mean → ℤ
 nearest m = rounded (m .sum) (m .weight)
 

@@ -2,15 +2,26 @@
 use mathlib.Core.Bool.{cond}
 use Prim.Native.Nat.{ℕ, suc, _+_, _*_, _/_, _%_}
 use lib.Dec.{ltb}
-use lib.IntN.{ℤ, pos, negsuc, negℤ, natAbs}
+use lib.IntN.{ℤ, pos, negsuc, negℤ, natAbs, _-ℤ_, _*ℤ_}
+use lib.Signed.{_≤ℤ_, _<ℤ_}
 
 -- ---- to the nearest
 -- Document 01, Settlement rate: "One rounding at the end, to nearest, ties away from zero (house)."
+-- Request L1: "The trading centre's ties go towards the higher rate, also below zero: -0.5 becomes 0, where we print -1.
+-- Round rules 1 to 3 so, and every later mean." The request decides on ties, document 01 on all else.
+
+-- What is asked of z as n / d, said without signs and sizes: what is left of n, n - d z, goes from half of d below zero, which
+-- is a tie that went up, to less than half of d above. `rounded-centred` and `centred-only` in RoundLaws say that `rounded n d`
+-- is so, and nothing else.
+pub record Centred (n : ℤ) (d : ℕ) (z : ℤ) : Type 0 where
+  pub least : negℤ (pos d) ≤ℤ (pos 2 *ℤ (n -ℤ pos d *ℤ z))
+  pub most : (pos 2 *ℤ (n -ℤ pos d *ℤ z)) <ℤ pos d
 
 -- The tie rule: the size that a tie goes to, where q is the whole part of the quotient's size.
--- Ties go away from zero.
+-- Above zero the higher number has the larger size, below zero the smaller.
 abbrev pub onTie : ℤ → ℕ → ℕ
-onTie n q = q + 1
+onTie (pos n) q = q + 1
+onTie (negsuc n) q = q
 
 -- The size of a quotient with whole part q and rest r of d.
 -- Less than half of d is dropped, more than half goes up, and exactly half goes to t.

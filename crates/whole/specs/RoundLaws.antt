@@ -1,22 +1,22 @@
--- What follows of rounding. The laws of rounding to the nearest hold for any tie rule: the result is nearest
--- (`rounded-nearest`), and no other whole number is (`rounded-only`).
-use mathlib.Core.Path.{_≡_, refl, sym, _∙_, ap, ap₂}
+-- What follows of rounding. The rule in force leaves a rest about zero (`rounded-centred`), and no other whole number does
+-- (`centred-only`). The other laws of rounding to the nearest hold for any tie rule.
+use mathlib.Core.Path.{_≡_, refl, sym, _∙_, ap, ap₂, subst}
 use mathlib.Core.Bool.{Bool, true, false, not}
 use mathlib.Core.Logic.{_⊎_, inl, inr}
-use Prim.Native.Nat.{ℕ, zero, suc, _+_, _*_, _-_, _/_, _%_, _<_, _≤_, zero-le}
-use native.Mathlib.Nat.{div-add-mod', mod-lt, div-eq-of-lt-le, zero-div, zero-mod}
+use Prim.Native.Nat.{ℕ, zero, suc, _+_, _*_, _-_, _/_, _%_, _<_, _≤_}
+use native.Mathlib.Nat.{div-add-mod', mod-lt}
 use native.Mathlib.Nat.{mul-comm, mul-pos, mul-le-mul-left, mul-le-mul-right, mul-lt-mul-of-pos-left}
 use native.Mathlib.Nat.{mul-div-mul-left}
-use native.Mathlib.Nat.{lt-of-mul-lt-mul-right, le-of-mul-le-mul-right, eq-of-mul-eq-mul-left}
+use native.Mathlib.Nat.{lt-of-mul-lt-mul-right, le-of-mul-le-mul-right}
 use native.Mathlib.Omega.{arith}
 use borrow.Author.Tests.{lt-ltb, le-ltb}
 use lib.Dec.{T, ltb, ltb→lt, nltb→le}
-use lib.IntN.{ℤ, pos, negsuc, negℤ, natAbs, _+ℤ_, _-ℤ_, _*ℤ_, +ℤ-invr, negℤ-negℤ, *ℤ-comm}
+use lib.IntN.{ℤ, pos, negsuc, negℤ, natAbs, _+ℤ_, _-ℤ_, _*ℤ_, +ℤ-invr, *ℤ-comm}
 use lib.Signed.{_≤ℤ_, _<ℤ_}
-use Rattle.whole.specs.Parts.{Parts, _⊖_, ⊖-lt, negsuc-⊖, parts₃, ring, zarith}
+use Rattle.whole.specs.Parts.{Parts, _⊖_, ⊖-lt, negsuc-⊖, parts₃, parts₄, ring, zarith}
 use Rattle.whole.specs.Order.{≤ℤ-antisym, ≤ℤ-total, pos-nonneg}
 use Rattle.whole.specs.Within.{Within, natAbs-neg-pos, natAbs-*}
-use Rattle.whole.specs.Round.{onTie, nearestSize, sizeRoundedBy, withSign, roundedBy, rounded, hundredthUp}
+use Rattle.whole.specs.Round.{Centred, onTie, nearestSize, sizeRoundedBy, withSign, roundedBy, rounded, hundredthUp}
 
 -- ---- tie rules
 -- A tie goes to one of the two whole numbers beside it: q or q + 1.
@@ -24,7 +24,6 @@ pub record TieRule (tie : ℤ → ℕ → ℕ) : Type 0 where
   pub least : (n : ℤ) (q : ℕ) → q ≤ tie n q
   pub most : (n : ℤ) (q : ℕ) → tie n q ≤ q + 1
 
--- By the sign of the dividend, since a rule may look at it.
 pub onTie-rule : TieRule onTie
 onTie-rule = record { least = low; most = high }
   where
@@ -93,20 +92,6 @@ module _ (m d t : ℕ) (h : 0 < d) where
       (λ e. omega (arith, split, mod-lt m h))
       (λ e. omega (arith, split, mul-le-mul-right d low, mul-le-mul-right d high))
 
-  -- no other size is as near, but on a tie
-  size-only : (s : ℕ) → 2 * (s * d) ≤ 2 * m + d → 2 * m ≤ 2 * (s * d) + d → (2 * (m % d) ≡ d → s ≡ t) → s ≡ size
-  size-only s low high on-tie =
-      size-ind (λ k. s ≡ k)
-      (λ e. between (m / d) (omega (arith, split)) (omega (arith, split)))
-      (λ e. between (m / d + 1) (omega (arith, split)) (omega (arith, split, mod-lt m h)))
-      on-tie
-    where
-      between : (k : ℕ) → k * d < (s + 1) * d → s * d < (k + 1) * d → s ≡ k
-      between k a b =
-          let low : k < s + 1 = lt-of-mul-lt-mul-right d a in
-          let high : s < k + 1 = lt-of-mul-lt-mul-right d b in
-          omega arith
-
   -- a size that m / d is not beyond
   size-most : (B : ℕ) → t ≤ m / d + 1 → m ≤ B * d → size ≤ B
   size-most B high room =
@@ -118,14 +103,6 @@ module _ (m d t : ℕ) (h : 0 < d) where
       under : m / d * d < B * d → m / d < B
       under = lt-of-mul-lt-mul-right d
 
--- k and a half: the whole part is k, and the rest is half of d
-module _ (m d k : ℕ) (h : 0 < d) (e : 2 * m ≡ (2 * k + 1) * d) where
-  tie-whole : m / d ≡ k
-  tie-whole = div-eq-of-lt-le d (omega arith) (omega arith)
-
-  tie-rest : 2 * (m % d) ≡ d
-  tie-rest = let g : k * d + m % d ≡ m = rw (← tie-whole) (div-add-mod' m d) in omega arith
-
 -- ---- signs
 -- the distance of n from d times a number of n's sign is that of the sizes
 sign-apart : (n : ℤ) (d s : ℕ) → natAbs (n -ℤ pos d *ℤ withSign n s) ≡ (natAbs n - s * d) + (s * d - natAbs n)
@@ -133,30 +110,12 @@ unfolding withSign
 sign-apart (pos n) d s = simp ring (omega zarith)
 sign-apart (negsuc n) d s = simp ring (omega zarith)
 
--- what is near n / d has its sign: a number of the other sign is at least d away
-far : (x n z d : ℕ) → x ≡ n + suc z * d → 0 < d → 2 * x ≤ d → ⊥
-far x n z d e h k = omega arith
-
-sign-near : (n z : ℤ) (d : ℕ) → 0 < d → 2 * natAbs (n -ℤ pos d *ℤ z) ≤ d → (s : ℕ) × (z ≡ withSign n s)
-unfolding withSign
-sign-near (pos n) (pos z) d h k = (z, refl)
-sign-near (pos n) (negsuc z) d h k = absurd (far _ n z d (simp ring (omega zarith)) h k)
-sign-near (negsuc n) (pos zero) d h k = (0, refl)
-sign-near (negsuc n) (pos (suc z)) d h k = absurd (far _ (suc n) z d (simp ring (omega zarith)) h k)
-sign-near (negsuc n) (negsuc z) d h k = (suc z, refl)
-
 natAbs-withSign : (n : ℤ) (s : ℕ) → natAbs (withSign n s) ≡ s
 unfolding withSign
 natAbs-withSign (pos n) s = refl
 natAbs-withSign (negsuc n) s = natAbs-neg-pos s
 
 -- ---- rounding to the nearest
--- z is nearest to n / d: at most half of d away from n, and on a tie, where the size of n / d is k and a half, the
--- number of n's sign whose size the rule gives.
-pub record Nearest (tie : ℤ → ℕ → ℕ) (n : ℤ) (d : ℕ) (z : ℤ) : Type 0 where
-  pub near : 2 * natAbs (n -ℤ pos d *ℤ z) ≤ d
-  pub on-tie : (k : ℕ) → 2 * natAbs n ≡ (2 * k + 1) * d → z ≡ withSign n (tie n k)
-
 module _ (tie : ℤ → ℕ → ℕ) (n : ℤ) (d : ℕ) (h : 0 < d) where
   -- the result is at most half of d away
   pub rounded-near : TieRule tie → 2 * natAbs (n -ℤ pos d *ℤ roundedBy tie n d) ≤ d
@@ -164,40 +123,6 @@ module _ (tie : ℤ → ℕ → ℕ) (n : ℤ) (d : ℕ) (h : 0 < d) where
       let q = natAbs n / d in
       let g = size-near (natAbs n) d (tie n q) h (rule .least n q) (rule .most n q) in
       rw sign-apart (omega arith)
-
-  -- on a tie it goes by the rule
-  pub rounded-on-tie : (k : ℕ) → 2 * natAbs n ≡ (2 * k + 1) * d → roundedBy tie n d ≡ withSign n (tie n k)
-  rounded-on-tie k e =
-      let q = natAbs n / d in
-      ap (withSign n)
-      (half q (natAbs n % d) d (tie n q) (tie-rest (natAbs n) d k h e)
-      ∙ ap (tie n) (tie-whole (natAbs n) d k h e))
-
-  pub rounded-tie-size : (k : ℕ) → 2 * natAbs n ≡ (2 * k + 1) * d → natAbs (roundedBy tie n d) ≡ tie n k
-  rounded-tie-size k e = ap natAbs (rounded-on-tie k e) ∙ natAbs-withSign n (tie n k)
-
-  -- so it is nearest, and no other whole number is
-  pub rounded-nearest : TieRule tie → Nearest tie n d (roundedBy tie n d)
-  rounded-nearest rule = record { near = rounded-near rule; on-tie = rounded-on-tie }
-
-  pub rounded-only : (z : ℤ) → Nearest tie n d z → z ≡ roundedBy tie n d
-  rounded-only z w = go (sign-near n z d h (w .near))
-    where
-      by-rule : (s : ℕ) → z ≡ withSign n s → 2 * (natAbs n % d) ≡ d → s ≡ tie n (natAbs n / d)
-      by-rule s e g =
-          let q = natAbs n / d in
-          sym (natAbs-withSign n s)
-          ∙ ap natAbs (sym e ∙ w .on-tie q (omega (arith, div-add-mod' (natAbs n) d)))
-          ∙ natAbs-withSign n (tie n q)
-
-      go : (s : ℕ) × (z ≡ withSign n s) → z ≡ roundedBy tie n d
-      go (s, e) =
-          let q = natAbs n / d in
-          let a : 2 * natAbs (n -ℤ pos d *ℤ withSign n s) ≤ d = rw e at (w .near) in
-          let b = sign-apart n d s in
-          e
-          ∙ ap (withSign n)
-          (size-only (natAbs n) d (tie n q) h s (omega arith) (omega arith) (by-rule s e))
 
   -- the size is no larger than n's, and no larger than B where that of n / d is not
   pub size-rounded-most : TieRule tie → sizeRoundedBy tie n d ≤ natAbs n
@@ -210,44 +135,6 @@ module _ (tie : ℤ → ℕ → ℕ) (n : ℤ) (d : ℕ) (h : 0 < d) where
   rounded-within {B} rule w =
       let q = natAbs n / d in
       record { size = rw natAbs-withSign (size-most (natAbs n) d (tie n q) h B (rule .most n q) (w .size)) }
-
--- a whole quotient is itself, at zero and below too
-not-half : (a d k : ℕ) → 0 < d → 2 * (d * a) ≡ (2 * k + 1) * d → ⊥
-not-half a d k h e =
-    let g : 2 * a ≡ 2 * k + 1 = eq-of-mul-eq-mul-left d h (2 * a) (2 * k + 1) (omega arith) in
-    omega arith
-
-pub rounded-exact : (tie : ℤ → ℕ → ℕ) (z : ℤ) (d : ℕ) → 0 < d → roundedBy tie (pos d *ℤ z) d ≡ z
-rounded-exact tie z d h =
-    sym (rounded-only tie (pos d *ℤ z) d h z
-    (record {
-      near = rw (+ℤ-invr (pos d *ℤ z)) zero-le;
-      on-tie = λ k e. absurd (not-half (natAbs z) d k h (rw natAbs-* at e));
-    }))
-
-size-zero : (d t : ℕ) → 0 < d → nearestSize (0 / d) (0 % d) d t ≡ 0
-size-zero d t h = less-than-half (0 / d) (0 % d) d t (rw zero-mod (omega arith)) ∙ zero-div d
-
--- exchanging the sign exchanges the result's, for a rule that does not look at the sign
-pub rounded-neg : (tie : ℤ → ℕ → ℕ) → ((n : ℤ) (q : ℕ) → tie (negℤ n) q ≡ tie n q)
-    → (n : ℤ) (d : ℕ) → 0 < d → roundedBy tie (negℤ n) d ≡ negℤ (roundedBy tie n d)
-unfolding withSign
-rounded-neg tie same (pos zero) d h = rw (size-zero d (tie (pos 0) (0 / d)) h)
-rounded-neg tie same (pos (suc n)) d h = rw (same (pos (suc n)) (suc n / d))
-rounded-neg tie same (negsuc n) d h = rw (same (negsuc n) (suc n / d), negℤ-negℤ)
-
--- ---- the rule in force: ties go away from zero
-pub rounded-away : (n : ℤ) (d k : ℕ) → 0 < d → 2 * natAbs n ≡ (2 * k + 1) * d → natAbs (rounded n d) ≡ k + 1
-rounded-away n d k h e = rounded-tie-size onTie n d h k e
-
--- Document 01, marked examples 6 and 7: a mean of 0.5 is 1, and of -0.5 is -1.
-pub example-6 : rounded (pos 3) 6 ≡ pos 1
-unfolding nearestSize withSign
-example-6 = refl
-
-pub example-7 : rounded (negsuc 2) 6 ≡ negsuc 0
-unfolding nearestSize withSign
-example-7 = refl
 
 -- ---- the hundredth, rounded up
 pub hundredth-nonneg : (x : ℤ) → pos 0 ≤ℤ x → pos 0 ≤ℤ hundredthUp x
@@ -365,3 +252,82 @@ module _ (tie : ℤ → ℕ → ℕ) (same : (k : ℕ) → 0 < k → (n : ℤ) (
       sym (rounded-scaled e k n d)
       ∙ ap₂ (roundedBy tie) (*ℤ-comm (pos e) n ∙ q ∙ *ℤ-comm m (pos d)) (mul-comm e d)
       ∙ rounded-scaled d h m e
+
+-- ---- the rule in force: ties go to the higher number
+module _ (m d s : ℕ) where
+  centred-above : 2 * (s * d) ≤ 2 * m + d → 2 * m < 2 * (s * d) + d → Centred (pos m) d (pos s)
+  centred-above a b = record { least = simp ring (omega zarith); most = simp ring (omega zarith) }
+
+  centred-below : 2 * (s * d) < 2 * suc m + d → 2 * suc m ≤ 2 * (s * d) + d → Centred (negsuc m) d (negℤ (pos s))
+  centred-below a b = record { least = simp ring (omega zarith); most = simp ring (omega zarith) }
+
+pub rounded-centred : (n : ℤ) (d : ℕ) → 0 < d → Centred n d (rounded n d)
+unfolding withSign
+rounded-centred (pos m) d h =
+    let t = onTie (pos m) (m / d) in
+    let w = size-ind m d t h (λ s. (2 * (s * d) ≤ 2 * m + d) × (2 * m < 2 * (s * d) + d))
+    (λ e. omega (arith, split m d t h))
+    (λ e. omega (arith, split m d t h, mod-lt m h))
+    (λ e. omega (arith, split m d t h)) in
+    centred-above m d _ (w .0) (w .1)
+rounded-centred (negsuc m) d h =
+    let k = suc m in
+    let t = onTie (negsuc m) (k / d) in
+    let w = size-ind k d t h (λ s. (2 * (s * d) < 2 * k + d) × (2 * k ≤ 2 * (s * d) + d))
+    (λ e. omega (arith, split k d t h))
+    (λ e. omega (arith, split k d t h, mod-lt k h))
+    (λ e. omega (arith, split k d t h)) in
+    centred-below m d _ (w .0) (w .1)
+
+-- of two numbers the lower leaves too much, or the higher too little
+centred-apart : (n y z : ℤ) (d : ℕ) → y <ℤ z → Centred n d y → Centred n d z → ⊥
+centred-apart n y z d h u v = go (u .most) (v .least)
+  where
+    go : (pos 2 *ℤ (n -ℤ pos d *ℤ y)) <ℤ pos d → negℤ (pos d) ≤ℤ (pos 2 *ℤ (n -ℤ pos d *ℤ z)) → ⊥
+    go = parts₃ n y z (λ a b c. simp (a .is, b .is, c .is, ring) (omega (zarith, products n y z d h b c)))
+
+pub centred-only : (n y z : ℤ) (d : ℕ) → Centred n d y → Centred n d z → y ≡ z
+centred-only n y z d u v = ≤ℤ-antisym (not-below z y v u) (not-below y z u v)
+  where
+    not-below : (a b : ℤ) → Centred n d a → Centred n d b → b ≤ℤ a
+    not-below a b p q = go (≤ℤ-total a b)
+      where
+        go : (a <ℤ b) ⊎ (b ≤ℤ a) → b ≤ℤ a
+        go (inl e) = absurd (centred-apart n a b d e p q)
+        go (inr e) = e
+
+-- d times a number more: the quotient is that number more, on both sides of zero
+pub rounded-more : (n t : ℤ) (d : ℕ) → 0 < d → rounded (pos d *ℤ t +ℤ n) d ≡ t +ℤ rounded n d
+rounded-more n t d h =
+    centred-only sum (rounded sum d) (t +ℤ rounded n d) d (rounded-centred sum d h)
+    (record {
+      least = subst (λ x. negℤ (pos d) ≤ℤ (pos 2 *ℤ x)) left (rounded-centred n d h .least);
+      most = subst (λ x. (pos 2 *ℤ x) <ℤ pos d) left (rounded-centred n d h .most);
+    })
+  where
+    sum : ℤ
+    sum = pos d *ℤ t +ℤ n
+
+    same : (d t n z : ℤ) → n -ℤ d *ℤ z ≡ (d *ℤ t +ℤ n) -ℤ d *ℤ (t +ℤ z)
+    same d t n z = parts₄ d t n z (λ a b c e. simp (a .is, b .is, c .is, e .is, ring) (omega zarith))
+
+    left : n -ℤ pos d *ℤ rounded n d ≡ sum -ℤ pos d *ℤ (t +ℤ rounded n d)
+    left = same (pos d) t n (rounded n d)
+
+-- a whole quotient is itself, at zero and below too
+pub rounded-exact : (z : ℤ) (d : ℕ) → 0 < d → rounded (pos d *ℤ z) d ≡ z
+rounded-exact z d h =
+    centred-only (pos d *ℤ z) (rounded (pos d *ℤ z) d) z d (rounded-centred (pos d *ℤ z) d h)
+    (record {
+      least = rw (+ℤ-invr (pos d *ℤ z)) (simp ring (omega zarith));
+      most = rw (+ℤ-invr (pos d *ℤ z)) (simp ring (omega zarith));
+    })
+
+-- Document 01, marked examples 6 and 7, the latter as request L1 has it: a mean of 0.5 is 1, and of -0.5 is 0.
+pub example-6 : rounded (pos 3) 6 ≡ pos 1
+unfolding nearestSize withSign
+example-6 = refl
+
+pub example-7 : rounded (negsuc 2) 6 ≡ pos 0
+unfolding nearestSize withSign
+example-7 = refl

@@ -28,12 +28,12 @@ pub fn smaller(a: i64, b: i64) -> i64
     if a < b { a } else { b }
 }
 
-// Where a tie goes: away from zero. The one place to change when the tie rule does.
+// Where a tie goes: to the higher number, whose size is the smaller one below zero. The one place to change when the tie rule does.
 fn on_tie(n: i64, q: u64) -> u64
     requires { ⌜ q < 2 ^ 63 ⌝ }
     ensures { λ r. ⌜ r ≡ onTie n q ⌝ }
 {
-    q + 1
+    if n < 0 { q } else { q + 1 }
 }
 
 // The size of n / d to the nearest.
