@@ -1,5 +1,4 @@
 -- Under rules 1, 2 and 3 the rate lies between the least and the greatest of the rates that it is made of.
-use mathlib.Core.Path.{_≡_}
 use mathlib.Core.Bool.{Bool}
 use mathlib.Core.List.{List, [], _∷_, map}
 use Prim.Native.Nat.{ℕ, _≤_, _<_}

@@ -1,5 +1,6 @@
--- What follows of rounding. The rule in force leaves a rest about zero (`rounded-centred`), and no other whole number does
--- (`centred-only`). The other laws of rounding to the nearest hold for any tie rule.
+-- What follows of rounding. To the nearest, bounds hold for any tie rule, and equal quotients round alike by any that does not
+-- look at the scale. The rule in force leaves a rest about zero (`rounded-centred`), and no other whole number does
+-- (`centred-only`).
 use mathlib.Core.Path.{_≡_, refl, sym, _∙_, ap, ap₂, subst}
 use mathlib.Core.Bool.{Bool, true, false, not}
 use mathlib.Core.Logic.{_⊎_, inl, inr}
