@@ -6,5 +6,6 @@ pub mod Feeding
 pub mod FeedingLaws
 pub mod Joined
 pub mod KindLaws
+pub mod Mornings
 pub mod Padding
 pub mod Taken

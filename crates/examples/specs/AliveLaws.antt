@@ -83,17 +83,17 @@ end-runs : Runs atEnd
 unfolding has placeOf all zipped sumZ rising folded unfolded ceilings kinds allWithin positions.total newHoldings totalsOf isOver funds.newFunds funds.paidUp funds.settled funds.paidIn new callOf after afterAll firstOf refusal refusals
 end-runs = further-runs lastDay at1357 runs-1357 refl
 
-abbrev at1358 : Course
+abbrev pub at1358 : Course
 at1358 = opened from1358 1358 (pos 23000) 3000000 atEnd
 
-runs-1358 : Runs at1358
+pub runs-1358 : Runs at1358
 unfolding all rising isWeekend isException isWorking firstWorking folded unfolded ceilings kinds allWithin callOf after afterAll firstOf refusal
 runs-1358 = opened-runs from1358 1358 (pos 23000) 3000000 atEnd end-runs listing-1358 (rw listing-1358)
 
-abbrev atDefault : Course
+abbrev pub atDefault : Course
 atDefault = further (settles ∷ []) at1358
 
-default-runs : Runs atDefault
+pub default-runs : Runs atDefault
 unfolding all rising kinds allWithin callOf afterAll firstOf refusal refusals
 default-runs = further-runs (settles ∷ []) at1358 runs-1358 refl
 

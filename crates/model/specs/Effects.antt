@@ -42,7 +42,7 @@ withAccounts b a = record { settings = b .settings; today = b .today; contracts 
 abbrev pub withHeld : Book → (ℕ → Held) → Book
 withHeld b held = withAccounts b (record { members = b .accounts .members; held = held; funds = b .accounts .funds; position = b .accounts .position })
 
-abbrev withFunds : Book → (ℕ → Funds) → Book
+abbrev pub withFunds : Book → (ℕ → Funds) → Book
 withFunds b f = withAccounts b (record { members = b .accounts .members; held = b .accounts .held; funds = f; position = b .accounts .position })
 
 abbrev withPositions : Book → (ℕ → ℕ → Position) → Book

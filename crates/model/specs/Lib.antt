@@ -31,3 +31,5 @@ pub mod HeldLaws
 pub mod BoundLaws
 pub mod PromiseLaws
 pub mod CourseLaws
+pub mod Neighbours
+pub mod NeighbourLaws

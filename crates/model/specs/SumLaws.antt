@@ -16,7 +16,7 @@ use Rattle.whole.specs.Over.{sumOver, over-last, over-ext, over-add, over-sub, 
 abbrev pub only : ℕ → ℤ → ℕ → ℤ
 only k x n = cond (eqb n k) x (pos 0)
 
-over-away : (k : ℕ) (x : ℤ) (ns : List ℕ) → has k ns ≡ false → sumOver (only k x) ns ≡ pos 0
+pub over-away : (k : ℕ) (x : ℤ) (ns : List ℕ) → has k ns ≡ false → sumOver (only k x) ns ≡ pos 0
 unfolding sumZ has
 over-away k x [] h = refl
 over-away k x (n ∷ ns) h =

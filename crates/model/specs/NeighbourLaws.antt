@@ -1,0 +1,172 @@
+-- A settlement looks at one account at a time.
+use mathlib.Core.Path.{_≡_, refl, sym, ap, ap₂, _∙_, subst, fun-ext}
+use mathlib.Core.Bool.{Bool, true, false, cond}
+use mathlib.Core.List.{List, _∷_}
+use Prim.Native.Nat.{ℕ, zero, suc}
+use borrow.Author.Tests.{eqb-true, eq-eqb}
+use lib.Dec.{eqb}
+use lib.IntN.{ℤ, pos, _+ℤ_, _-ℤ_, +ℤ-invr}
+use Rattle.lists.specs.Has.{has}
+use Rattle.lists.specs.HasLaws.{byTest}
+use Rattle.whole.specs.Over.{sumOver, over-ext, over-sub}
+use Rattle.funds.specs.Funds as funds
+use Rattle.funds.specs.FundsLaws.{settled-keeps, settled-paid, settled-unpaid, paid-in-keeps, paid-out-keeps}
+use Rattle.funds.specs.declared.Funds.{Funds}
+use Rattle.records.specs.Records.{Entry}
+use Rattle.model.specs.Book.{Book, isMember, accountOf, replaced}
+use Rattle.model.specs.Calls.{Call, payIn, payOut, settle, callOf}
+use Rattle.model.specs.Effects.{withFunds, paid, after}
+use Rattle.model.specs.Refusals.{refusal}
+use Rattle.model.specs.Answers.{kept, called, answered, answer}
+use Rattle.model.specs.History.{run}
+use Rattle.model.specs.Neighbours.{AlikeButCash, moneyOf, withCash, withMoneyOf, AlikeButMoney, SameMorning, OneDefault, AnyMoney, PaymentApart, unpaid, HouseApart}
+use Rattle.model.specs.RefusalLaws.{accepted-called}
+use Rattle.model.specs.SumLaws.{only, over-away, over-only}
+use Rattle.model.specs.FrameLaws.{Framed, framed}
+use Rattle.model.specs.MoneyLaws.{house-owes}
+
+-- ---- what the definition says of every other account
+others-same : (k : ℕ) (a b : Book) → AlikeButMoney k a b → (n : ℕ) → eqb n k ≡ false → accountOf a n ≡ accountOf b n
+others-same k a b h n d = subst (λ c. accountOf a n ≡ accountOf c n) h (rw d)
+
+-- ---- the account itself: a settlement leaves requirement and free as they were
+abbrev settledIf : Bool → Funds → Funds
+settledIf member f = cond member (funds.settled f .funds) f
+
+settled-rest : (f : Funds) → moneyOf f (funds.settled f .funds) ≡ funds.settled f .funds
+unfolding funds.paidUp funds.inDefault
+settled-rest f = settled-keeps (λ t. moneyOf f (t .funds) ≡ t .funds) f (λ free. refl) (λ free covered. refl) (λ free short. refl)
+
+rest-settled : (member : Bool) (f g : Funds) → moneyOf (settledIf member f) (settledIf member (moneyOf f g)) ≡ settledIf member (moneyOf f g)
+rest-settled true f g = ap (λ t. moneyOf t (funds.settled (moneyOf f g) .funds)) (sym (settled-rest f)) ∙ settled-rest (moneyOf f g)
+rest-settled false f g = refl
+
+-- ---- a settlement of a, and of a with other money on k and in the house
+module _ (k : ℕ) (a : Book) (g : Funds) (house : ℤ) where
+  abbrev other : Book
+  other = withMoneyOf a k g house
+
+  -- refusals are by the point of the day
+  refusal-same : (e : Entry) → callOf e ≡ settle → refusal a e ≡ refusal other e
+  unfolding refusal
+  refusal-same e q = rw q
+
+  answers-same : (e : Entry) → callOf e ≡ settle → answer a e ≡ answer other e
+  unfolding answer
+  answers-same e q = rw (refusal-same e q, q) (go (refusal other e))
+    where
+      go : (r : ℕ) → answered r a settle ≡ answered r other settle
+      go zero = refl
+      go (suc r) = refl
+
+  -- every other account is settled by its own money, which is the same
+  money-settled : AlikeButMoney k (after a settle) (after other settle)
+  unfolding after
+  money-settled = ap (withFunds (after other settle)) (fun-ext λ n. byTest (eqb n k) (λ d. rw (eqb-true n k d) own) (λ d. rw d))
+    where
+      own : replaced (after a settle .accounts .funds) k (moneyOf (after a settle .accounts .funds k) (after other settle .accounts .funds k)) k
+          ≡ after other settle .accounts .funds k
+      own = rw (eq-eqb k k refl) (rest-settled (isMember a k) (a .accounts .funds k) g)
+
+  kept-alike : (r : ℕ) → AlikeButMoney k (kept r a settle) (kept r other settle)
+  kept-alike zero = money-settled
+  kept-alike (suc r) = rw (eq-eqb k k refl)
+
+  called-alike : (e : Entry) → callOf e ≡ settle → AlikeButMoney k (called a e) (called other e)
+  unfolding called
+  called-alike e q = rw (refusal-same e q, q) (kept-alike (refusal other e))
+
+  morning-other : (e : Entry) → callOf e ≡ settle → SameMorning k a other e
+  morning-other e q = record {
+    refusals = refusal-same e q;
+    answers = answers-same e q;
+    others = others-same k (called a e) (called other e) (called-alike e q);
+    no-more = called-alike e q;
+  }
+
+pub any-money : AnyMoney
+any-money k a b h e q = subst (λ c. SameMorning k a c e) h (morning-other k a (b .accounts .funds k) (b .house) e q)
+
+-- ---- alike but for the cash of k
+module _ (k : ℕ) (a : Book) where
+  -- k's cash is part of its money
+  cash-money : (cash : ℤ) → AlikeButMoney k a (withCash a k cash)
+  cash-money cash = rw (eq-eqb k k refl)
+
+  -- the account's funds where nothing but the cash is new
+  paid-alike : (f : Funds) → f ≡ funds.withMoney (a .accounts .funds k) (f .cash) (a .accounts .funds k .margin) → AlikeButCash k a (paid a k f)
+  paid-alike f same = rw (eq-eqb k k refl) (ap (paid a k) (sym same))
+
+  itself-alike : AlikeButCash k a a
+  itself-alike = ap (withFunds a) (fun-ext λ n. byTest (eqb n k) (λ d. rw (d, eqb-true n k d)) (λ d. rw d))
+
+  paid-in-alike : (x : ℤ) → AlikeButCash k a (after a (payIn k x))
+  unfolding after
+  paid-in-alike x =
+      paid-in-keeps (λ p. AlikeButCash k a (paid a k (funds.after (a .accounts .funds k) p))) (a .accounts .funds k) x
+      (paid-alike (a .accounts .funds k) refl)
+      (λ room. paid-alike (funds.withMoney (a .accounts .funds k) (a .accounts .funds k .cash +ℤ x) (a .accounts .funds k .margin)) refl)
+
+  paid-out-alike : (x : ℤ) → AlikeButCash k a (after a (payOut k x))
+  unfolding after
+  paid-out-alike x =
+      paid-out-keeps (λ p. AlikeButCash k a (paid a k (funds.after (a .accounts .funds k) p))) (a .accounts .funds k) x
+      (paid-alike (a .accounts .funds k) refl)
+      (paid-alike (a .accounts .funds k) refl)
+      (λ room. paid-alike (funds.withMoney (a .accounts .funds k) (a .accounts .funds k .cash -ℤ x) (a .accounts .funds k .margin)) refl)
+
+pub one-default : OneDefault
+one-default k a b h = any-money k a b (subst (AlikeButMoney k a) h (cash-money k a (b .accounts .funds k .cash)))
+
+pub payment-apart : PaymentApart
+unfolding called after
+payment-apart = record {
+  paid-in = λ k x b e q. rw q (came k b (payIn k x) (paid-in-alike k b x) (refusal b e));
+  paid-out = λ k x b e q. rw q (came k b (payOut k x) (paid-out-alike k b x) (refusal b e));
+}
+  where
+    came : (k : ℕ) (b : Book) (c : Call) → AlikeButCash k b (after b c) → (n : ℕ) → AlikeButCash k b (kept n b c)
+    came k b c same zero = same
+    came k b c same (suc n) = itself-alike k b
+
+-- ---- the house is the sum of what is due, so it differs by what is due to k
+abbrev dueTo : Book → ℕ → ℤ
+dueTo b n = b .accounts .funds n .due
+
+due-apart : (k : ℕ) (a b : Book) → AlikeButMoney k a b → (n : ℕ) → dueTo a n -ℤ dueTo b n ≡ only k (dueTo a k -ℤ dueTo b k) n
+due-apart k a b h n =
+    byTest (eqb n k)
+    (λ d. rw (d, eqb-true n k d))
+    (λ d. rw (d, ap (λ x. x .funds .due) (others-same k a b h n d)) (+ℤ-invr (dueTo b n)))
+
+houses-apart : (k : ℕ) (h g : List Entry) → AlikeButMoney k (run h) (run g) → run h .house -ℤ run g .house ≡ dueTo (run h) k -ℤ dueTo (run g) k
+unfolding funds.newFunds
+houses-apart k h g same =
+    let ms = run h .accounts .members in
+    let one = ap (λ c. c .accounts .members) same in
+    ap₂ _-ℤ_ (house-owes h) (house-owes g ∙ ap (sumOver (dueTo (run g))) (sym one))
+    ∙ sym (over-sub (dueTo (run h)) (dueTo (run g)) ms)
+    ∙ over-ext _ _ ms (due-apart k (run h) (run g) same)
+    ∙ byTest (has k ms)
+    (over-only k _ ms (framed h .once))
+    (λ m. over-away k _ ms m ∙ sym (ap₂ (λ f f′. f .due -ℤ f′ .due) (framed h .strangers k m .1) (framed g .strangers k (ap (has k) (sym one) ∙ m) .1)))
+
+-- what is due after a settlement is what it did not pay
+left-due : (member : Bool) (f : Funds) → (member ≡ false → f ≡ funds.newFunds)
+    → settledIf member f .due ≡ cond (settledIf member f .flag) (f .due) (pos 0)
+unfolding funds.newFunds
+left-due true f new = byTest (funds.settled f .funds .flag) (λ set. rw set (settled-unpaid f set .1)) (λ clear. rw clear (settled-paid f clear .1))
+left-due false f new = rw (new refl)
+
+still-due : (b : Book) → Framed b → (k : ℕ) → dueTo (after b settle) k ≡ unpaid b (after b settle) k
+unfolding after
+still-due b i k = left-due (isMember b k) (b .accounts .funds k) (λ m. i .strangers k m .1)
+
+pub house-apart : HouseApart
+unfolding run
+house-apart k h g same e q r =
+    let s = one-default k (run h) (run g) same e q in
+    houses-apart k (e ∷ h) (e ∷ g) (s .no-more) ∙ ap₂ _-ℤ_ (unpaid-after h r) (unpaid-after g (sym (s .refusals) ∙ r))
+  where
+    unpaid-after : (l : List Entry) → refusal (run l) e ≡ 0 → dueTo (called (run l) e) k ≡ unpaid (run l) (called (run l) e) k
+    unpaid-after l r = rw (accepted-called (run l) e r q) (still-due (run l) (framed l) k)
