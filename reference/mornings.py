@@ -2,9 +2,9 @@
 
     python3 reference/mornings.py FOLDER [PROGRAM]    on the event files in FOLDER; PROGRAM is the day program, target/bin/day
 
-At each accepted settlement two accounts are chosen by the file's name. For each, the records up to the settlement are taken three times: as they
-are, with the account's cash paid out just before it, and with much paid in. Behind the settlement every account's money is asked for, and the day is
-closed. Of all other accounts the three must show the same; the houses differ by what is still due to the one account.
+Of each file some accepted settlements are chosen, by the file's name, and of each settlement two accounts. For each account the records up to the settlement are
+taken three times: as they are, with the account's cash paid out just before it, and with much paid in. Behind the settlement every account's money is asked
+for, and the day is closed. Of all other accounts the three must show the same; the houses differ by what is still due to the one account.
 """
 import subprocess
 import sys
@@ -18,6 +18,7 @@ from rates import verdicts_in
 from records import Malformed, encode_all, read_record
 
 ENROL, PAY_IN, PAY_OUT, RELEASE, SETTLE, CLOSE = 1, 2, 3, 4, 10, 12
+SETTLEMENTS_EACH = 8
 ACCOUNTS_EACH = 2
 MUCH = 10**14
 # Falling powers of two: what of them is accepted adds up to what there was, below 2^47 fen to the fen.
@@ -41,7 +42,7 @@ def asks(kind, account):
 
 
 def printed(program, data):
-    return verdicts_in(subprocess.run([program], input=data, capture_output=True, check=True, text=False).stdout.decode())
+    return verdicts_in(subprocess.run([program], input=data, capture_output=True, check=True).stdout.decode())
 
 
 # What a program shows behind the records of a morning: the settlement, what each account's releases and payments were answered, its line at the
@@ -84,24 +85,30 @@ def faults(one, other, account):
         yield f'the houses {one.house} and {other.house}, due {one.due(account)} and {other.due(account)}'
 
 
-# The settlements of a file that are accepted: the bytes before each, and the accounts enrolled by then.
+# The settlements of a file that are accepted: the number of bytes before each, and the accounts enrolled by then.
 def settlements(program, data):
-    records = list(records_of(data))
-    before, accounts = b'', []
-    for (kind, numbers, record), verdict in zip(records, printed(program, data)):
+    found, accounts, at = [], [], 0
+    for (kind, numbers, record), verdict in zip(records_of(data), printed(program, data)):
         accepted = verdict[0].split()[1] == 'ok'
         if kind == SETTLE and accepted:
-            yield before, list(accounts)
+            found.append((at, list(accounts)))
         if kind == ENROL and accepted:
             accounts.append(numbers[0])
-        before += record
+        at += len(record)
+    return found
+
+
+# Some of a list, in its order.
+def some(choice, items, most):
+    return [items[i] for i in sorted(choice.sample(range(len(items)), min(most, len(items))))]
 
 
 def check(program, name, data, counts):
     choice = Random(name)
-    for number, (before, accounts) in enumerate(settlements(program, data), 1):
+    for place, accounts in some(choice, settlements(program, data), SETTLEMENTS_EACH):
+        before = data[:place]
         plain = morning(program, before, accounts)
-        for account in choice.sample(accounts, min(ACCOUNTS_EACH, len(accounts))):
+        for account in some(choice, accounts, ACCOUNTS_EACH):
             for paid in (asks(PAY_OUT, account), encode_all(PAY_IN, [account, MUCH])):
                 other = morning(program, before + paid, accounts)
                 counts['pairs of mornings'] += 1
@@ -110,7 +117,7 @@ def check(program, name, data, counts):
                 counts['pairs with two houses'] += plain.house != other.house
                 for fault in faults(plain, other, account):
                     counts['faults'] += 1
-                    print(f'{name}, settlement {number}, account {account}: {fault}')
+                    print(f'{name}, settlement at byte {place}, account {account}: {fault}')
 
 
 def main(folder, program='target/bin/day'):

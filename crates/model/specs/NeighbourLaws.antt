@@ -7,13 +7,13 @@ use borrow.Author.Tests.{eqb-true, eq-eqb}
 use lib.Dec.{eqb}
 use lib.IntN.{ℤ, pos, _+ℤ_, _-ℤ_, +ℤ-invr}
 use Rattle.lists.specs.Has.{has}
-use Rattle.lists.specs.HasLaws.{byTest}
+use Rattle.lists.specs.HasLaws.{byTest, when-true, when-false}
 use Rattle.whole.specs.Over.{sumOver, over-ext, over-sub}
 use Rattle.funds.specs.Funds as funds
 use Rattle.funds.specs.FundsLaws.{settled-keeps, settled-paid, settled-unpaid, paid-in-keeps, paid-out-keeps}
 use Rattle.funds.specs.declared.Funds.{Funds}
 use Rattle.records.specs.Records.{Entry}
-use Rattle.model.specs.Book.{Book, isMember, accountOf, replaced}
+use Rattle.model.specs.Book.{Book, isMember, accountOf}
 use Rattle.model.specs.Calls.{Call, payIn, payOut, settle, callOf}
 use Rattle.model.specs.Effects.{withFunds, paid, after}
 use Rattle.model.specs.Refusals.{refusal}
@@ -60,13 +60,21 @@ module _ (k : ℕ) (a : Book) (g : Funds) (house : ℤ) where
       go (suc r) = refl
 
   -- every other account is settled by its own money, which is the same
+  others-settled : (n : ℕ) → eqb n k ≡ false → after a settle .accounts .funds n ≡ after other settle .accounts .funds n
+  unfolding after
+  others-settled n d = rw d
+
+  own-settled : moneyOf (after a settle .accounts .funds k) (after other settle .accounts .funds k) ≡ after other settle .accounts .funds k
+  unfolding after
+  own-settled = rw (eq-eqb k k refl) (rest-settled (isMember a k) (a .accounts .funds k) g)
+
   money-settled : AlikeButMoney k (after a settle) (after other settle)
   unfolding after
-  money-settled = ap (withFunds (after other settle)) (fun-ext λ n. byTest (eqb n k) (λ d. rw (eqb-true n k d) own) (λ d. rw d))
-    where
-      own : replaced (after a settle .accounts .funds) k (moneyOf (after a settle .accounts .funds k) (after other settle .accounts .funds k)) k
-          ≡ after other settle .accounts .funds k
-      own = rw (eq-eqb k k refl) (rest-settled (isMember a k) (a .accounts .funds k) g)
+  money-settled =
+      ap (withFunds (after other settle))
+      (fun-ext λ n. byTest (eqb n k)
+      (λ d. when-true _ _ d ∙ own-settled ∙ ap (after other settle .accounts .funds) (sym (eqb-true n k d)))
+      (λ d. when-false _ _ d ∙ others-settled n d))
 
   kept-alike : (r : ℕ) → AlikeButMoney k (kept r a settle) (kept r other settle)
   kept-alike zero = money-settled
