@@ -14,8 +14,8 @@ from random import Random
 from typing import NamedTuple
 
 # Of this folder.
-from rates import verdicts_in
-from records import Malformed, encode_all, read_record
+from rates import records_in, verdicts_in
+from records import encode_all, numbers_of
 
 ENROL, PAY_IN, PAY_OUT, RELEASE, SETTLE, CLOSE = 1, 2, 3, 4, 10, 12
 SETTLEMENTS_EACH = 8
@@ -23,18 +23,6 @@ ACCOUNTS_EACH = 2
 MUCH = 10**14
 # Falling powers of two: what of them is accepted adds up to what there was, below 2^47 fen to the fen.
 AMOUNTS = [2**power for power in reversed(range(47))]
-
-
-# The records of a file up to the first that cannot be read: kind, numbers and bytes.
-def records_of(data):
-    at = 0
-    while at < len(data):
-        try:
-            kind, numbers, _, end = read_record(data, at)
-        except Malformed:
-            return
-        yield kind, numbers, data[at:end]
-        at = end
 
 
 def asks(kind, account):
@@ -88,13 +76,13 @@ def faults(one, other, account):
 # The settlements of a file that are accepted: the number of bytes before each, and the accounts enrolled by then.
 def settlements(program, data):
     found, accounts, at = [], [], 0
-    for (kind, numbers, record), verdict in zip(records_of(data), printed(program, data)):
+    for (kind, values, exceptions), verdict in zip(records_in(data), printed(program, data)):
         accepted = verdict[0].split()[1] == 'ok'
         if kind == SETTLE and accepted:
             found.append((at, list(accounts)))
         if kind == ENROL and accepted:
-            accounts.append(numbers[0])
-        at += len(record)
+            accounts.append(values[0])
+        at += len(encode_all(kind, numbers_of(kind, values), exceptions))
     return found
 
 

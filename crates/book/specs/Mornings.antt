@@ -1,18 +1,16 @@
 -- One member's default and the others, in memory. Request L10 is a theorem of the model (Neighbours there); here it is joined to the program: a
 -- settlement called on two memories.
 use mathlib.Core.Path.{_≡_, sym, _∙_}
-use mathlib.Core.Bool.{false}
 use mathlib.Core.List.{List, _∷_}
 use Prim.Native.Nat.{ℕ}
-use lib.Dec.{eqb}
 use lib.IntN.{ℤ, _-ℤ_}
 use Rattle.records.specs.Records.{Entry}
-use Rattle.model.specs.Book.{Book, accountOf}
+use Rattle.model.specs.Book.{Book}
 use Rattle.model.specs.Calls.{settle, callOf}
 use Rattle.model.specs.Refusals.{refusal}
 use Rattle.model.specs.Answers.{called, answer}
 use Rattle.model.specs.History.{run}
-use Rattle.model.specs.Neighbours.{AlikeButCash, AlikeButMoney, SameMorning, unpaid}
+use Rattle.model.specs.Neighbours.{AlikeButCash, OthersSame, SameMorning, unpaid}
 use Rattle.model.specs.NeighbourLaws.{one-default, house-apart}
 use Rattle.standing.specs.Standing.{view}
 use Rattle.book.specs.declared.calls.Answer.{Answer}
@@ -22,16 +20,11 @@ use Rattle.book.specs.Joined.{Reached, after, joined}
 -- what was answered on both, and the books read off both memories afterwards
 pub record MorningJoined (k : ℕ) (a b : Book) (r s : Answer) : Type 0 where
   pub answers : answerOf a r ≡ answerOf b s
-  pub others : (n : ℕ) → eqb n k ≡ false → accountOf a n ≡ accountOf b n
-  pub no-more : AlikeButMoney k a b
+  pub after : OthersSame k a b
 
 same-joined : {k : ℕ} {a b a′ b′ : Book} {e : Entry} {r s : Answer} → a′ ≡ called a e → b′ ≡ called b e
     → answerOf a′ r ≡ answer a e → answerOf b′ s ≡ answer b e → SameMorning k a b e → MorningJoined k a′ b′ r s
-same-joined p q x y m = record {
-  answers = x ∙ m .answers ∙ sym y;
-  others = λ n d. rw (p, q) (m .others n d);
-  no-more = rw (p, q) (m .no-more);
-}
+same-joined p q x y m = record { answers = x ∙ m .answers ∙ sym y; after = rw (p, q) (m .after) }
 
 house-joined : (k : ℕ) (e : Entry) (h g : List Entry) {a b a′ b′ : Book} → a ≡ run h → b ≡ run g → a′ ≡ run (e ∷ h) → b′ ≡ run (e ∷ g)
     → AlikeButCash k a b → callOf e ≡ settle → refusal a e ≡ 0 → a′ .house -ℤ b′ .house ≡ unpaid a a′ k -ℤ unpaid b b′ k

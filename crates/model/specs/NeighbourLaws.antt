@@ -88,8 +88,7 @@ module _ (k : ℕ) (a : Book) (g : Funds) (house : ℤ) where
   morning-other e q = record {
     refusals = refusal-same e q;
     answers = answers-same e q;
-    others = others-same k (called a e) (called other e) (called-alike e q);
-    no-more = called-alike e q;
+    after = record { others = others-same k (called a e) (called other e) (called-alike e q); no-more = called-alike e q };
   }
 
 pub any-money : AnyMoney
@@ -101,27 +100,29 @@ module _ (k : ℕ) (a : Book) where
   cash-money : (cash : ℤ) → AlikeButMoney k a (withCash a k cash)
   cash-money cash = rw (eq-eqb k k refl)
 
-  -- the account's funds where nothing but the cash is new
-  paid-alike : (f : Funds) → f ≡ funds.withMoney (a .accounts .funds k) (f .cash) (a .accounts .funds k .margin) → AlikeButCash k a (paid a k f)
-  paid-alike f same = rw (eq-eqb k k refl) (ap (paid a k) (sym same))
+  -- nothing but the cash is new
+  paid-alike : (cash : ℤ) → AlikeButCash k a (withCash a k cash)
+  paid-alike cash = rw (eq-eqb k k refl)
 
   itself-alike : AlikeButCash k a a
   itself-alike = ap (withFunds a) (fun-ext λ n. byTest (eqb n k) (λ d. rw (d, eqb-true n k d)) (λ d. rw d))
 
-  paid-in-alike : (x : ℤ) → AlikeButCash k a (after a (payIn k x))
-  unfolding after
-  paid-in-alike x =
-      paid-in-keeps (λ p. AlikeButCash k a (paid a k (funds.after (a .accounts .funds k) p))) (a .accounts .funds k) x
-      (paid-alike (a .accounts .funds k) refl)
-      (λ room. paid-alike (funds.withMoney (a .accounts .funds k) (a .accounts .funds k .cash +ℤ x) (a .accounts .funds k .margin)) refl)
+  -- refused payments leave the account's funds, and the cash that it had
+  module _ (x : ℤ) where
+    paid-in-alike : AlikeButCash k a (after a (payIn k x))
+    unfolding after
+    paid-in-alike =
+        paid-in-keeps (λ p. AlikeButCash k a (paid a k (funds.after (a .accounts .funds k) p))) (a .accounts .funds k) x
+        (paid-alike (a .accounts .funds k .cash))
+        (λ room. paid-alike (a .accounts .funds k .cash +ℤ x))
 
-  paid-out-alike : (x : ℤ) → AlikeButCash k a (after a (payOut k x))
-  unfolding after
-  paid-out-alike x =
-      paid-out-keeps (λ p. AlikeButCash k a (paid a k (funds.after (a .accounts .funds k) p))) (a .accounts .funds k) x
-      (paid-alike (a .accounts .funds k) refl)
-      (paid-alike (a .accounts .funds k) refl)
-      (λ room. paid-alike (funds.withMoney (a .accounts .funds k) (a .accounts .funds k .cash -ℤ x) (a .accounts .funds k .margin)) refl)
+    paid-out-alike : AlikeButCash k a (after a (payOut k x))
+    unfolding after
+    paid-out-alike =
+        paid-out-keeps (λ p. AlikeButCash k a (paid a k (funds.after (a .accounts .funds k) p))) (a .accounts .funds k) x
+        (paid-alike (a .accounts .funds k .cash))
+        (paid-alike (a .accounts .funds k .cash))
+        (λ room. paid-alike (a .accounts .funds k .cash -ℤ x))
 
 pub one-default : OneDefault
 one-default k a b h = any-money k a b (subst (AlikeButMoney k a) h (cash-money k a (b .accounts .funds k .cash)))
@@ -174,7 +175,7 @@ pub house-apart : HouseApart
 unfolding run
 house-apart k h g same e q r =
     let s = one-default k (run h) (run g) same e q in
-    houses-apart k (e ∷ h) (e ∷ g) (s .no-more) ∙ ap₂ _-ℤ_ (unpaid-after h r) (unpaid-after g (sym (s .refusals) ∙ r))
+    houses-apart k (e ∷ h) (e ∷ g) (s .after .no-more) ∙ ap₂ _-ℤ_ (unpaid-after h r) (unpaid-after g (sym (s .refusals) ∙ r))
   where
     unpaid-after : (l : List Entry) → refusal (run l) e ≡ 0 → dueTo (called (run l) e) k ≡ unpaid (run l) (called (run l) e) k
     unpaid-after l r = rw (accepted-called (run l) e r q) (still-due (run l) (framed l) k)

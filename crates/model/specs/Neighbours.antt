@@ -39,13 +39,16 @@ abbrev pub AlikeButMoney : ℕ → Book → Book → Type 0
 AlikeButMoney k a b = withMoneyOf a k (b .accounts .funds k) (b .house) ≡ b
 
 -- ---- one settlement of both
+pub record OthersSame (k : ℕ) (a b : Book) : Type 0 where
+  -- "all other accounts the same margin, cash, due, flag and core": all that an account has
+  pub others : (n : ℕ) → eqb n k ≡ false → accountOf a n ≡ accountOf b n
+  pub no-more : AlikeButMoney k a b
+
 pub record SameMorning (k : ℕ) (a b : Book) (e : Entry) : Type 0 where
   -- refused on both, under the same number, or on neither
   pub refusals : refusal a e ≡ refusal b e
   pub answers : answer a e ≡ answer b e
-  -- "all other accounts the same margin, cash, due, flag and core": all that an account has
-  pub others : (n : ℕ) → eqb n k ≡ false → accountOf (called a e) n ≡ accountOf (called b e) n
-  pub no-more : AlikeButMoney k (called a e) (called b e)
+  pub after : OthersSame k (called a e) (called b e)
 
 abbrev pub OneDefault : Type 0
 OneDefault = (k : ℕ) (a b : Book) → AlikeButCash k a b → (e : Entry) → callOf e ≡ settle → SameMorning k a b e
