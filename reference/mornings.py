@@ -6,16 +6,13 @@ Of each file some accepted settlements are chosen, by the file's name, and of ea
 taken three times: as they are, with the account's cash paid out just before it, and with much paid in. Behind the settlement every account's money is asked
 for, and the day is closed. Of all other accounts the three must show the same; the houses differ by what is still due to the one account.
 """
-import subprocess
-import sys
-from collections import Counter
-from pathlib import Path
 from random import Random
 from typing import NamedTuple
 
 # Of this folder.
 from rates import records_in, verdicts_in
 from records import encode_all, numbers_of
+from vectors import run_day, run_trials, some
 
 ENROL, PAY_IN, PAY_OUT, RELEASE, SETTLE, CLOSE = 1, 2, 3, 4, 10, 12
 SETTLEMENTS_EACH = 8
@@ -27,10 +24,6 @@ AMOUNTS = [2**power for power in reversed(range(47))]
 
 def asks(kind, account):
     return b''.join(encode_all(kind, [account, amount]) for amount in AMOUNTS)
-
-
-def printed(program, data):
-    return verdicts_in(subprocess.run([program], input=data, capture_output=True, check=True).stdout.decode())
 
 
 # What a program shows behind the records of a morning: the settlement, what each account's releases and payments were answered, its line at the
@@ -50,7 +43,7 @@ class Morning(NamedTuple):
 
 def morning(program, before, accounts):
     probes = b''.join(asks(RELEASE, a) + asks(PAY_OUT, a) for a in accounts)
-    verdicts = printed(program, before + encode_all(SETTLE, []) + probes + encode_all(CLOSE, [0]))
+    verdicts = verdicts_in(run_day(program, before + encode_all(SETTLE, []) + probes + encode_all(CLOSE, [0])))
     each = 2 * len(AMOUNTS)
     behind = verdicts[-1 - each * len(accounts):-1]
     closed = verdicts[-1]
@@ -76,7 +69,7 @@ def faults(one, other, account):
 # The settlements of a file that are accepted: the number of bytes before each, and the accounts enrolled by then.
 def settlements(program, data):
     found, accounts, at = [], [], 0
-    for (kind, values, exceptions), verdict in zip(records_in(data), printed(program, data)):
+    for (kind, values, exceptions), verdict in zip(records_in(data), verdicts_in(run_day(program, data))):
         accepted = verdict[0].split()[1] == 'ok'
         if kind == SETTLE and accepted:
             found.append((at, list(accounts)))
@@ -86,12 +79,7 @@ def settlements(program, data):
     return found
 
 
-# Some of a list, in its order.
-def some(choice, items, most):
-    return [items[i] for i in sorted(choice.sample(range(len(items)), min(most, len(items))))]
-
-
-def check(program, name, data, counts):
+def faults_in(program, name, data, counts):
     choice = Random(name)
     for place, accounts in some(choice, settlements(program, data), SETTLEMENTS_EACH):
         before = data[:place]
@@ -104,20 +92,8 @@ def check(program, name, data, counts):
                 counts['pairs with one default'] += plain.is_in_default(account) != other.is_in_default(account)
                 counts['pairs with two houses'] += plain.house != other.house
                 for fault in faults(plain, other, account):
-                    counts['faults'] += 1
-                    print(f'{name}, settlement at byte {place}, account {account}: {fault}')
-
-
-def main(folder, program='target/bin/day'):
-    counts = Counter({'faults': 0})
-    for events in sorted(Path(folder).glob('*.events')):
-        check(program, events.stem, events.read_bytes(), counts)
-    for heading, count in counts.items():
-        print(f'{heading}: {count}')
-    return counts['faults'] == 0 and counts['pairs with one default'] > 0
+                    yield f'settlement at byte {place}, account {account}: {fault}'
 
 
 if __name__ == '__main__':
-    if len(sys.argv) not in (2, 3):
-        sys.exit(__doc__)
-    sys.exit(0 if main(*sys.argv[1:]) else 1)
+    run_trials(__doc__, faults_in, ['pairs with one default'])

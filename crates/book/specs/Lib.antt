@@ -8,4 +8,5 @@ pub mod Joined
 pub mod KindLaws
 pub mod Mornings
 pub mod Padding
+pub mod Splits
 pub mod Taken

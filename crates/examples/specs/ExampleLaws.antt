@@ -50,14 +50,14 @@ use Rattle.model.specs.CourseLaws.{afterAll, stepsOf, refusals, Course, Runs, f
 use Rattle.model.specs.Examples.{enrolAndPay, settleAndTrade, linesTo, PrintedDay, Marked}
 
 -- ---- part by part: each call passes
-abbrev six : List ℕ
+abbrev pub six : List ℕ
 six = 2309 ∷ 2310 ∷ 2311 ∷ 2312 ∷ 2403 ∷ 2406 ∷ []
 
-listing-1339 : listing plain 1339 ≡ record { known = true; codes = six }
+pub listing-1339 : listing plain 1339 ≡ record { known = true; codes = six }
 unfolding isWorking isException isWeekend firstWorking codeOf monthLength firstDay thirdWednesday settlementDay considered chosenAfter
 listing-1339 = sym (computed-listing plain 1339 54 (omega arith) refl)
 
-listing-1342 : listing plain 1342 ≡ record { known = true; codes = six }
+pub listing-1342 : listing plain 1342 ≡ record { known = true; codes = six }
 unfolding isWorking isException isWeekend firstWorking codeOf monthLength firstDay thirdWednesday settlementDay considered chosenAfter
 listing-1342 = sym (computed-listing plain 1342 54 (omega arith) refl)
 

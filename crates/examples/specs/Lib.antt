@@ -3,3 +3,6 @@ pub mod ExampleLaws
 pub mod AliveLaws
 pub mod Mornings
 pub mod MorningLaws
+pub mod Tickets
+pub mod TicketLaws
+pub mod BusyLaws

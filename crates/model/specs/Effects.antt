@@ -33,10 +33,10 @@ use Rattle.model.specs.Calls.{Call, start, enrol, payIn, payOut, release
 abbrev withSettings : Book → Settings → Book
 withSettings b s = record { settings = s; today = b .today; contracts = b .contracts; results = b .results; accounts = b .accounts; house = b .house }
 
-abbrev withDay : Book → Today → Contracts → Book
+abbrev pub withDay : Book → Today → Contracts → Book
 withDay b t c = record { settings = b .settings; today = t; contracts = c; results = b .results; accounts = b .accounts; house = b .house }
 
-abbrev withAccounts : Book → Accounts → Book
+abbrev pub withAccounts : Book → Accounts → Book
 withAccounts b a = record { settings = b .settings; today = b .today; contracts = b .contracts; results = b .results; accounts = a; house = b .house }
 
 abbrev pub withHeld : Book → (ℕ → Held) → Book
@@ -45,7 +45,7 @@ withHeld b held = withAccounts b (record { members = b .accounts .members; held 
 abbrev pub withFunds : Book → (ℕ → Funds) → Book
 withFunds b f = withAccounts b (record { members = b .accounts .members; held = b .accounts .held; funds = f; position = b .accounts .position })
 
-abbrev withPositions : Book → (ℕ → ℕ → Position) → Book
+abbrev pub withPositions : Book → (ℕ → ℕ → Position) → Book
 withPositions b p = withAccounts b (record { members = b .accounts .members; held = b .accounts .held; funds = b .accounts .funds; position = p })
 
 abbrev atPoint : Book → Point → Today

@@ -33,3 +33,6 @@ pub mod PromiseLaws
 pub mod CourseLaws
 pub mod Neighbours
 pub mod NeighbourLaws
+pub mod Tickets
+pub mod TicketLaws
+pub mod SplitLaws

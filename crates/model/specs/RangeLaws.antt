@@ -14,7 +14,7 @@ use Rattle.whole.specs.Amounts.{Amount, amount-pos}
 use Rattle.days.specs.Days.{rising}
 use Rattle.folding.specs.Fold.{unfolded}
 use Rattle.fields.specs.Fields.{Quantity, lots, marginRate, referenceRate, clearingLimit, tolerance, specialMargin, amount, multiplier, day, side, rate, ceilings, kinds, fieldsOf, count}
-use Rattle.ranges.specs.Ranges.{withinCeilings, inRange}
+use Rattle.ranges.specs.Ranges.{withinCeilings}
 use Rattle.ranges.specs.Cells.{greatest}
 use Rattle.fields.specs.FieldLaws.{Shaped, shape-tells}
 use Rattle.ranges.specs.RangeLaws.{InRange, range-tells, refusal-number, within-values, within-ends}
@@ -142,8 +142,8 @@ by-kind (suc (suc (suc (suc (suc (suc (suc (suc (suc (suc (suc (suc zero))))))))
 by-kind (suc (suc (suc (suc (suc (suc (suc (suc (suc (suc (suc (suc (suc n))))))))))))) f x i =
     absurd (omega (arith, shape i .below))
 
+pub ranged-tells : (e : Entry) → ranged e ≡ 0 → InRange (e .kind) (e .fields) (e .exceptions)
+ranged-tells e r = range-tells (e .kind) (e .fields) (e .exceptions) (needed 2 tt (sym (refusal-number (e .kind) (e .fields) (e .exceptions)) ∙ r))
+
 pub ranges : (e : Entry) → ranged e ≡ 0 → Ranged (callOf e)
-ranges e r = by-kind (e .kind) (e .fields) (e .exceptions) (range-tells (e .kind) (e .fields) (e .exceptions) passed)
-  where
-    passed : inRange (e .kind) (e .fields) (e .exceptions) ≡ true
-    passed = needed 2 tt (sym (refusal-number (e .kind) (e .fields) (e .exceptions)) ∙ r)
+ranges e r = by-kind (e .kind) (e .fields) (e .exceptions) (ranged-tells e r)

@@ -5,6 +5,7 @@ use mathlib.Core.List.{List, [], _∷_}
 use Prim.Native.Nat.{ℕ, zero, suc}
 use native.Mathlib.Nat.{suc-ne-zero}
 use lib.Dec.{T, ltb}
+use lib.ListN.{take}
 use Rattle.records.specs.Records.{Entry}
 use Rattle.model.specs.Book.{Book, new}
 use Rattle.model.specs.Calls.{Call, callOf}
@@ -23,6 +24,11 @@ unfolding firstOf
 passes [] e = tt
 passes (zero ∷ ts) e = (refl, passes ts e)
 passes (suc n ∷ ts) e = absurd (suc-ne-zero n e)
+
+pub passed-first : (n : ℕ) (ts : List ℕ) → Passed ts → Passed (take n ts)
+passed-first zero ts p = tt
+passed-first (suc n) [] p = tt
+passed-first (suc n) (t ∷ ts) p = (p .0, passed-first n ts (p .1))
 
 -- a test with a number above 0 is passed only where it holds
 pub needed : {t : Bool} (number : ℕ) → T (ltb 0 number) → needs t number ≡ 0 → t ≡ true
