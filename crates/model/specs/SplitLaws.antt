@@ -13,7 +13,7 @@ use lib.ListN.{getD, take, drop, length-map}
 use lib.Signed.{_≤ℤ_}
 use Rattle.lists.specs.HasLaws.{byTest, cond-same}
 use Rattle.whole.specs.Order.{≤ℤ-trans}
-use Rattle.whole.specs.Parts.{parts₁, parts₃, ring, zarith}
+use Rattle.whole.specs.Parts.{parts₁, parts₂, parts₃, ring, zarith}
 use Rattle.lists.specs.Passing.{all}
 use Rattle.days.specs.Days.{rising}
 use Rattle.folding.specs.FoldLaws.{unfolded-folded}
@@ -65,24 +65,26 @@ between-nearer x y z w = byTest (ltb (natAbs x) (natAbs y)) (λ e. inr (go w (lt
     go (inl h) = up (h .0) (h .1)
     go (inr h) = down (h .0) (h .1)
 
+-- further on, on the same side of zero
+further-above : (x y : ℤ) → pos 0 ≤ℤ x → x ≤ℤ y → natAbs x ≤ natAbs y
+further-above x y = parts₂ x y (λ a b. simp (a .is, b .is, ring) (omega zarith))
+
+further-below : (x y : ℤ) → x ≤ℤ pos 0 → y ≤ℤ x → natAbs x ≤ natAbs y
+further-below x y = parts₂ x y (λ a b. simp (a .is, b .is, ring) (omega zarith))
+
 -- where it stays on one side of zero, it comes nearer to zero from the middle to the end, or goes away from zero up to the middle
 one-sided : (x y z : ℤ) → Between x y z → OneSided x z → (natAbs z ≤ natAbs y) ⊎ (natAbs x ≤ natAbs y)
-one-sided x y z (inl w) (inl s) = inr (go (s .0) (w .0))
-  where
-    go : pos 0 ≤ℤ x → x ≤ℤ y → natAbs x ≤ natAbs y
-    go = parts₃ x y z (λ a b c. simp (a .is, b .is, ring) (omega zarith))
-one-sided x y z (inl w) (inr s) = inl (go (w .1) (s .1))
-  where
-    go : y ≤ℤ z → z ≤ℤ pos 0 → natAbs z ≤ natAbs y
-    go = parts₃ x y z (λ a b c. simp (b .is, c .is, ring) (omega zarith))
-one-sided x y z (inr w) (inl s) = inl (go (w .0) (s .1))
-  where
-    go : z ≤ℤ y → pos 0 ≤ℤ z → natAbs z ≤ natAbs y
-    go = parts₃ x y z (λ a b c. simp (b .is, c .is, ring) (omega zarith))
-one-sided x y z (inr w) (inr s) = inr (go (w .1) (s .0))
-  where
-    go : y ≤ℤ x → x ≤ℤ pos 0 → natAbs x ≤ natAbs y
-    go = parts₃ x y z (λ a b c. simp (a .is, b .is, ring) (omega zarith))
+one-sided x y z (inl w) (inl s) = inr (further-above x y (s .0) (w .0))
+one-sided x y z (inl w) (inr s) = inl (further-below z y (s .1) (w .1))
+one-sided x y z (inr w) (inl s) = inl (further-above z y (s .1) (w .0))
+one-sided x y z (inr w) (inr s) = inr (further-below x y (s .0) (w .1))
+
+-- and the middle is on that side
+still-one-sided : (x y z : ℤ) → Between x y z → OneSided x z → OneSided y z
+still-one-sided x y z (inl w) (inl s) = inl (≤ℤ-trans (s .0) (w .0), s .1)
+still-one-sided x y z (inl w) (inr s) = inr (≤ℤ-trans (w .1) (s .1), s .1)
+still-one-sided x y z (inr w) (inl s) = inl (≤ℤ-trans (s .1) (w .0), s .1)
+still-one-sided x y z (inr w) (inr s) = inr (≤ℤ-trans (w .1) (s .0), s .1)
 
 -- both parts' lots are of one sign
 lots-between : (s : Split) (n : ℕ) (x : ℤ) → Between x (x +ℤ lotsFor (first s) n) (x +ℤ lotsFor (whole s) n)
@@ -111,6 +113,9 @@ module _ (s : Split) (b : Book) (n : ℕ) where
 
   abbrev netWith : ℤ → ℤ
   netWith l = positionIn b n (s .code) .net +ℤ l
+
+  own-net : (l : ℤ) → withLots l (s .code) .net ≡ netWith l
+  own-net l = rw (eq-eqb (s .code) (s .code) refl)
 
   net-nearer : (l k : ℤ) → natAbs (netWith l) ≤ natAbs (netWith k) → (c : ℕ) → natAbs (withLots l c .net) ≤ natAbs (withLots k c .net)
   net-nearer l k h c =
@@ -157,18 +162,22 @@ module _ (s : Split) (b : Book) (n : ℕ) where
   first-not-beyond : isBeyond (positionIn b n (s .code)) ≡ false → isBeyond (positionIn (traded b (whole s)) n (s .code)) ≡ false
       → isBeyond (positionIn (traded b (first s)) n (s .code)) ≡ false
   first-not-beyond p q =
-      rw (eq-eqb (s .code) (s .code) refl)
-      (le-ltb 20000 _ (go (between-nearer _ _ _ (lots-between s n (positionIn b n (s .code) .net))) (ltb-false _ _ p) (ltb-false _ _ whole-near)))
+      let near = go (between-nearer x (netWith l) (netWith k) (lots-between s n x)) (ltb-false _ _ p) (subst Near (own-net k) (ltb-false _ _ q)) in
+      le-ltb 20000 _ (subst Near (sym (own-net l)) near)
     where
+      Near : ℤ → Type 0
+      Near z = natAbs z ≤ 20000
+
       x : ℤ
       x = positionIn b n (s .code) .net
 
-      whole-near : ltb 20000 (natAbs (netWith (lotsFor (whole s) n))) ≡ false
-      whole-near = subst (λ t. ltb 20000 (natAbs (cond t (dealt (positionIn b n (s .code)) (lotsFor (whole s) n) (s .rate)) (positionIn b n (s .code)) .net)) ≡ false)
-          (eq-eqb (s .code) (s .code) refl) q
+      l : ℤ
+      l = lotsFor (first s) n
 
-      go : (natAbs (x +ℤ lotsFor (first s) n) ≤ natAbs x) ⊎ (natAbs (x +ℤ lotsFor (first s) n) ≤ natAbs (x +ℤ lotsFor (whole s) n))
-          → natAbs x ≤ 20000 → natAbs (x +ℤ lotsFor (whole s) n) ≤ 20000 → natAbs (x +ℤ lotsFor (first s) n) ≤ 20000
+      k : ℤ
+      k = lotsFor (whole s) n
+
+      go : (natAbs (netWith l) ≤ natAbs x) ⊎ (natAbs (netWith l) ≤ natAbs (netWith k)) → Near x → Near (netWith k) → Near (netWith l)
       go (inl h) a c = le-trans h a
       go (inr h) a c = le-trans h c
 
@@ -285,12 +294,9 @@ module _ (s : Split) (b : Book) (n : ℕ) where
 
   safe-not-over : isOver (sideOf b (traded b (whole s)) n) ≡ false → SafeFor s b n → isOver (secondStep s b n) ≡ false
   safe-not-over passes (inl h) = over-not-within _ h
-  safe-not-over passes (inr w) = one-sided-not-over passes (rw (+ℤ-idr (positionIn b n (s .code) .net)) (at-code w))
-    where
-      at-code : OneSided (positionIn b n (s .code) .net) (positionIn (traded b (whole s)) n (s .code) .net)
-          → OneSided (positionIn b n (s .code) .net) (netWith s b n (lotsFor (whole s) n))
-      at-code w = subst (λ t. OneSided (positionIn b n (s .code) .net) (cond t (dealt (positionIn b n (s .code)) (lotsFor (whole s) n) (s .rate)) (positionIn b n (s .code)) .net))
-          (eq-eqb (s .code) (s .code) refl) w
+  safe-not-over passes (inr w) =
+      let x = positionIn b n (s .code) .net in
+      one-sided-not-over passes (rw (+ℤ-idr x) (subst (OneSided x) (own-net s b n (lotsFor (whole s) n)) w))
 
 pub safe-split : SafeSplit
 safe-split s b e f g o room buyer seller =
@@ -309,13 +315,6 @@ safe-split s b e f g o room buyer seller =
           safe-not-over s b (s .seller) (seller-not-over s b e f g o) seller,
         )
 
--- on the way a net stays on its side of zero
-still-one-sided : (x y z : ℤ) → Between x y z → OneSided x z → OneSided y z
-still-one-sided x y z (inl w) (inl s) = inl (≤ℤ-trans (s .0) (w .0), s .1)
-still-one-sided x y z (inl w) (inr s) = inr (≤ℤ-trans (w .1) (s .1), s .1)
-still-one-sided x y z (inr w) (inl s) = inl (≤ℤ-trans (s .1) (w .0), s .1)
-still-one-sided x y z (inr w) (inr s) = inr (≤ℤ-trans (w .1) (s .0), s .1)
-
 pub safe-again : SafeAgain
 safe-again s more b n is safe = subst Safe (sym is) (subst SafeAt (positions-alike s b) (go safe))
   where
@@ -332,7 +331,7 @@ safe-again s more b n is safe = subst Safe (sym is) (subst SafeAt (positions-ali
     go (inr w) = inr (still-one-sided _ _ _ between w)
       where
         between : Between (positionIn b n (s .code) .net) (positionIn (traded b (first s)) n (s .code) .net) (positionIn (traded b (whole s)) n (s .code) .net)
-        between = rw (eq-eqb (s .code) (s .code) refl) (lots-between s n (positionIn b n (s .code) .net))
+        between = rw (own-net s b n (lotsFor (first s) n), own-net s b n (lotsFor (whole s) n)) (lots-between s n (positionIn b n (s .code) .net))
 
 -- ---- records that people write
 written-says : (t : Trade) → callOf (written t) ≡ trade t

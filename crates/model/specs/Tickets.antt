@@ -41,17 +41,17 @@ pub record Split : Type 0 where
   pub secondLots : ℕ
 
 module _ (s : Split) where
-  abbrev soMany : ℕ → ℕ → Trade
-  soMany time lots = record { time = time; code = s .code; buyer = s .buyer; seller = s .seller; lots = lots; rate = s .rate }
+  abbrev ticketOf : ℕ → ℕ → Trade
+  ticketOf time lots = record { time = time; code = s .code; buyer = s .buyer; seller = s .seller; lots = lots; rate = s .rate }
 
   abbrev pub whole : Trade
-  whole = soMany (s .time) (s .firstLots + s .secondLots)
+  whole = ticketOf (s .time) (s .firstLots + s .secondLots)
 
   abbrev pub first : Trade
-  first = soMany (s .firstTime) (s .firstLots)
+  first = ticketOf (s .firstTime) (s .firstLots)
 
   abbrev pub second : Trade
-  second = soMany (s .secondTime) (s .secondLots)
+  second = ticketOf (s .secondTime) (s .secondLots)
 
   -- records of the three
   pub record Tickets (e f g : Entry) : Type 0 where
