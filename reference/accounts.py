@@ -5,7 +5,6 @@ exact fractions. It shares nothing with the Rattle code.
                                                     FOLDER, of ../shared/vectors
 """
 from collections import Counter
-from copy import deepcopy
 from fractions import Fraction
 from math import ceil
 from typing import NamedTuple
@@ -61,18 +60,17 @@ class Account:
     def total_at(self, contracts):
         return sum(abs(lots) * contracts[code].margin for code, lots in self.nets.items() if lots)
 
-    # "Buyer's net up, seller's down."
-    def trade(self, deal, contracts):
+    # "A side is over the limit exactly when its new total exceeds the limit and also exceeds its total before."
+    def check(self, deal, contracts):
         refuse(12, self.in_default)
-        before = self.total_at(contracts)
+        net, before = self.nets[deal.contract], self.total_at(contracts)
+        after = before + (abs(net + deal.lots) - abs(net)) * contracts[deal.contract].margin
+        refuse(13, not -20_000 <= net + deal.lots <= 20_000)
+        refuse(14, after > self.core + self.tolerance and after > before)
+
+    # "Buyer's net up, seller's down."
+    def trade(self, deal):
         self.nets[deal.contract] += deal.lots
-        after, limit = self.total_at(contracts), self.core + self.tolerance
-        try:
-            refuse(13, not -20_000 <= self.nets[deal.contract] <= 20_000)
-            refuse(14, after > limit and after > before)
-        except Refused:
-            self.nets[deal.contract] -= deal.lots
-            raise
         self.today.append(deal)
 
     # "250 x (sum over today's trades of signed lots x (rate - traded rate) + net before today x (rate - previous rate))".
@@ -154,15 +152,16 @@ class Book:
 
     # "First that applies: .. 12, 13, 14", on either side.
     def trade(self, time, code, buyer, seller, lots, rate):
-        code, refused, after = f'{code:04}', [], {}
-        for number, bought in [(buyer, lots), (seller, -lots)]:
-            after[number] = deepcopy(self.accounts[number])
+        code, contracts, refused = f'{code:04}', self.contracts(), []
+        sides = [(self.accounts[buyer], Deal(code, lots, rate)), (self.accounts[seller], Deal(code, -lots, rate))]
+        for account, deal in sides:
             try:
-                after[number].trade(Deal(code, bought, rate), self.contracts())
+                account.check(deal, contracts)
             except Refused as refusal:
                 refused.append(refusal.args[0])
         refuse(min(refused, default=0), refused)
-        self.accounts |= after
+        for account, deal in sides:
+            account.trade(deal)
         self.listed.days[code].events.append(rates.Trade(time, lots, rate))
 
     def quote(self, time, code, side, rate):

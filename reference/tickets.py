@@ -59,26 +59,26 @@ class Place(NamedTuple):
     trades: int
 
 
-# The places before the accepted trades of a file, each with its trade.
-def places(program, data):
-    found, open_places, book, at, clock, trades = [], [], None, 0, 0, 0
-    for (kind, values, exceptions), verdict in zip(records_in(data), verdicts_in(run_day(program, data))):
-        accepted = verdict[0].split()[1] == 'ok'
+# Some accepted trades of a file with two lots or more, each with the place before it.
+def places(program, data, choice):
+    records = list(zip(records_in(data), verdicts_in(run_day(program, data))))
+    is_ok = [verdict[0].split()[1] == 'ok' for _, verdict in records]
+    tickets = [i for i, ((kind, values, _), _) in enumerate(records) if is_ok[i] and kind == TRADE and values[4] > 1]
+    chosen = set(some(choice, tickets, TRADES_EACH))
+    found, todays, book, at, clock, trades = [], [], None, 0, 0, 0
+    for i, ((kind, values, exceptions), verdict) in enumerate(records):
         end = at + len(encode_all(kind, numbers_of(kind, values), exceptions))
-        if not accepted:
-            pass
-        elif kind == START:
+        if is_ok[i] and kind == START:
             book = accounts.Book(*values[:2], exceptions)
-        elif kind == CLOSE:
+        elif is_ok[i] and kind == CLOSE:
             list(book.close(values[0], [line for line in verdict if line.startswith('rate')]))
-            found += [(ticket, place._replace(behind=data[after:end])) for ticket, place, after in open_places]
-            open_places, clock, trades = [], 0, 0
-        else:
-            if kind == TRADE:
-                open_places.append((Ticket(*values), Place(data[:at], b'', deepcopy(book), clock, trades), end))
-                trades += 1
-            if kind in (TRADE, QUOTE):
-                clock = values[0]
+            found += [(ticket, place._replace(behind=data[behind:end])) for ticket, place, behind in todays]
+            todays, clock, trades = [], 0, 0
+        elif is_ok[i]:
+            if i in chosen:
+                todays.append((Ticket(*values), Place(data[:at], b'', deepcopy(book), clock, trades), end))
+            trades += kind == TRADE
+            clock = values[0] if kind in (TRADE, QUOTE) else clock
             book.do(kind, values)
         at = end
     return found
@@ -132,7 +132,11 @@ def nets_at_close(place, ticket, run):
 
 def split_faults(place, ticket, whole, parts, counts):
     if parts.later != whole.later:
-        yield 'later records are answered otherwise'
+        # With one trade more the table is full one trade earlier.
+        if f'{TRADE} no 16' in parts.later:
+            counts['days full earlier'] += 1
+        else:
+            yield 'later records are answered otherwise'
         return
     moved = parts.rate(ticket.code) - whole.rate(ticket.code)
     counts['other rules'] += parts.rule(ticket.code) != whole.rule(ticket.code)
@@ -220,8 +224,8 @@ def full_faults(program, place, ticket, choice, counts):
 def faults_in(program, name, data, counts):
     choice = Random(name)
     try:
-        chosen = some(choice, [(t, place) for t, place in places(program, data) if t.lots > 1], TRADES_EACH)
-        turns = [places(program, turn)[-1] for turn in turned(choice)]
+        chosen = places(program, data, choice)
+        turns = [places(program, turn, choice)[-1] for turn in turned(choice)]
     except accounts.Refused as refused:
         yield f'a record is accepted that accounts.py refuses under {refused}'
         return
