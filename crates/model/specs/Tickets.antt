@@ -119,7 +119,7 @@ pub record Offered (s : Split) (b : Book) (e f g : Entry) : Type 0 where
   -- the sides' nets in the contract are at most 20,000 lots before
   pub not-beyond : (isBeyond (positionIn b (s .buyer) (s .code)) ≡ false) × (isBeyond (positionIn b (s .seller) (s .code)) ≡ false)
 
--- nets always are in a book that calls made, and fields in records that people write, where each part has a lot
+-- both hold by themselves: nets in a book that calls made, fields in records that people write, where each part has a lot
 abbrev pub AsWritten : Type 0
 AsWritten = (s : Split) (h : List Entry) → refusal (run h) (written (whole s)) ≡ 0 → InOrder s (run h) → 0 < s .firstLots → 0 < s .secondLots
     → Offered s (run h) (written (whole s)) (written (first s)) (written (second s))
