@@ -1,6 +1,6 @@
 -- From the groups of calls to the book's one entry.
 use mathlib.Core.Path.{_≡_, refl, sym, ap, _∙_, subst}
-use mathlib.Core.List.{List, [], _∷_}
+use mathlib.Core.List.{List, _∷_}
 use Prim.Native.Nat.{ℕ, zero, suc}
 use lib.IntN.{ℤ, pos}
 use lib.ListN.{replicate}
@@ -12,11 +12,12 @@ use Rattle.model.specs.Calls.{Call, Trade, trade, callOf}
 use Rattle.model.specs.Effects.{after}
 use Rattle.model.specs.Refusals.{firstOf, ranged, tests, refusal}
 use Rattle.model.specs.Answers.{kept, called, accepts, answered, answer}
-use Rattle.model.specs.History.{run}
+use Rattle.model.specs.History.{runFrom}
+use Rattle.model.specs.Kept.{Kept}
+use Rattle.model.specs.KeptLaws.{kept-called, kept-run}
 use Rattle.standing.specs.Standing.{rowsOf, view}
 use Rattle.standing.specs.Made.{Sound, decided, Made}
-use Rattle.standing.specs.Good.{good}
-use Rattle.standing.specs.StandingLaws.{view-is, new-rows}
+use Rattle.standing.specs.StandingLaws.{view-is, new-rows, sound-of, sound-kept, sound-holds}
 use Rattle.dealing.specs.declared.Dealt.{Dealt}
 use Rattle.dealing.specs.declared.Dealt.the-variants as dealing
 use Rattle.dealing.specs.Dealing.{Traded, answerOf as tradeAnswer}
@@ -53,17 +54,14 @@ module _ {counts counts′ : List ℕ} {money money′ : List ℤ} where
       → Answered counts money (trade t) (dealt r) counts′ money′
   traded-dealt {t} {r} h = record { answers = deal-says _ r ∙ h .answers; memory = h .memory }
 
--- ---- a record on a memory that calls have made
--- a record called on the memory of a history is the history's next call
-pub next-holds : {counts counts′ : List ℕ} {money money′ : List ℤ} (e : Entry) (h : List Entry) → Holds counts money (rowsOf (run h))
-    → Holds counts′ money′ (rowsOf (called (view counts money) e)) → Holds counts′ money′ (rowsOf (run (e ∷ h)))
-unfolding run
-next-holds {counts′} {money′} e h m n = subst (λ b. Holds counts′ money′ (rowsOf (called b e))) (view-is (good h) m) n
+-- ---- a record on a sound memory
+-- one that is called on a book's memory is the book's next call
+pub next-holds : {b : Book} {counts counts′ : List ℕ} {money money′ : List ℤ} → Kept b → (e : Entry) (h : List Entry) → Holds counts money (rowsOf (runFrom b h))
+    → Holds counts′ money′ (rowsOf (called (view counts money) e)) → Holds counts′ money′ (rowsOf (runFrom b (e ∷ h)))
+unfolding runFrom
+next-holds {counts′} {money′} k e h m n = subst (λ b. Holds counts′ money′ (rowsOf (called b e))) (view-is (kept-run k h) m) n
 
 module _ {counts : List ℕ} {money : List ℤ} (s : Sound counts money) (e : Entry) where
-  seen : view counts money ≡ run (s .history)
-  seen = view-is (good (s .history)) (s .holds)
-
   first-ranged : (n : ℕ) → ranged e ≡ n → refusal (view counts money) e ≡ firstOf (n ∷ tests (view counts money) (callOf e))
   unfolding refusal
   first-ranged n q = ap (λ k. firstOf (k ∷ tests (view counts money) (callOf e))) q
@@ -71,17 +69,17 @@ module _ {counts : List ℕ} {money : List ℤ} (s : Sound counts money) (e : En
   by-refusal : {r : Answer} {counts′ : List ℕ} {money′ : List ℤ} (n : ℕ) → refusal (view counts money) e ≡ n
       → answerOf (kept n (view counts money) (callOf e)) r ≡ answered n (view counts money) (callOf e)
       → Holds counts′ money′ (rowsOf (kept n (view counts money) (callOf e))) → Called counts money e r counts′ money′
-  unfolding called answer run
+  unfolding called answer
   by-refusal {r} {counts′} {money′} n q a h =
       let b = view counts money in
       let memory : Holds counts′ money′ (rowsOf (called b e)) = subst (λ k. Holds counts′ money′ (rowsOf (kept k b (callOf e)))) (sym q) h in
-      let holds = next-holds e (s .history) (s .holds) memory in
-      let views : view counts′ money′ ≡ called b e = view-is (good (e ∷ s .history)) holds ∙ sym (ap (λ v. called v e) seen) in
+      let next = kept-called e (sound-kept s) in
+      let views : view counts′ money′ ≡ called b e = view-is next memory in
       record {
         answers = ap (λ v. answerOf v r) views ∙ subst (λ k. answerOf (kept k b (callOf e)) r ≡ answered k b (callOf e)) (sym q) a;
         memory = memory;
         views = views;
-        sound = record { history = e ∷ s .history; holds = holds };
+        sound = sound-of next memory;
       }
 
   pub answered-called : {r : Answer} {counts′ : List ℕ} {money′ : List ℤ} → ranged e ≡ 0
@@ -92,14 +90,9 @@ module _ {counts : List ℕ} {money : List ℤ} (s : Sound counts money) (e : En
   -- "2 | field out of range": nothing changes
   pub unranged-called : {k : ℕ} → ranged e ≡ suc k → Called counts money e (Refused (suc k)) counts money
   unfolding firstOf
-  unranged-called {k} q =
-      by-refusal (suc k) (first-ranged (suc k) q) refl (subst (λ v. Holds counts money (rowsOf v)) (sym seen) (s .holds))
+  unranged-called {k} q = by-refusal (suc k) (first-ranged (suc k) q) refl (sound-holds s)
 
 -- ---- memory of a new book
 pub zeros-new : {counts : List ℕ} {money : List ℤ} → counts ≡ replicate countsLong 0 → money ≡ replicate moneyLong (pos 0)
     → Holds counts money (rowsOf new)
 zeros-new c m = record { counts = c ∙ sym (new-rows .0); money = m ∙ sym (new-rows .1) }
-
-pub new-sound : {counts : List ℕ} {money : List ℤ} → Holds counts money (rowsOf new) → Sound counts money
-unfolding run
-new-sound h = record { history = []; holds = h }

@@ -20,9 +20,11 @@ use Rattle.records.specs.ReadingLaws.{announced-padded, Stands, lies, reads-on}
 use Rattle.records.specs.Files.{writings, AllWhole, nothing-there}
 use Rattle.memory.specs.Memory.{Holds}
 use Rattle.model.specs.Book.{new}
-use Rattle.model.specs.History.{run}
+use Rattle.model.specs.History.{runFrom, run}
+use Rattle.model.specs.KeptLaws.{kept-new, known}
 use Rattle.standing.specs.Standing.{rowsOf, view}
 use Rattle.standing.specs.Made.{Sound}
+use Rattle.standing.specs.StandingLaws.{sound-of}
 use Rattle.book.specs.declared.calls.Answer.{Answer}
 use Rattle.book.specs.declared.bytes.Fed.the-variants.{Next, Malformed}
 use Rattle.book.specs.Called.{Called}
@@ -94,12 +96,12 @@ pub record Running (bytes : List ℕ) (place : ℕ) (counts : List ℕ) (money :
       → (entries : List Entry) × (ReadsTo bytes entries left × (reverse entries ≡ reverseAux more history))
 
 pub run-starts : (bytes : List ℕ) {counts : List ℕ} {money : List ℤ} → Holds counts money (rowsOf new) → Running bytes 0 counts money
-unfolding run
+unfolding runFrom
 run-starts bytes h = record { history = []; inside = zero-le; holds = h; goes-on = λ more left r. (more, (r, refl)) }
 
 module _ {bytes : List ℕ} {place : ℕ} {counts : List ℕ} {money : List ℤ} (g : Running bytes place counts money) where
   pub running-sound : Sound counts money
-  running-sound = record { history = g .history; holds = g .holds }
+  running-sound = sound-of (known (g .history)) (g .holds)
 
   pub run-step : {next : ℕ} {a : Answer} {counts′ : List ℕ} {money′ : List ℤ} → Small bytes
       → FedAt bytes place counts money (Next next a) counts′ money′ → (place < next) × Running bytes next counts′ money′
@@ -122,7 +124,7 @@ module _ {bytes : List ℕ} {place : ℕ} {counts : List ℕ} {money : List ℤ}
             record {
               history = e ∷ g .history;
               inside = omega arith;
-              holds = next-holds e (g .history) (g .holds) (h .memory);
+              holds = next-holds kept-new e (g .history) (g .holds) (h .memory);
               goes-on = λ more end r. g .goes-on (e ∷ more) end (rest, (i, subst (λ z. ReadsTo z more end) left r));
             },
           )

@@ -1,4 +1,5 @@
--- The join of the code and the model: whatever records and bytes a book is given, its memory is that of the model's book.
+-- The join of the code and the model. From any kept book: whatever records and bytes it is given, every call is answered as the model answers it, and
+-- the memory is that of the model's book. From a new book the promises hold besides.
 use mathlib.Core.Path.{_≡_, sym, ap, _∙_, subst}
 use mathlib.Core.List.{List, [], _∷_, reverse}
 use Prim.Native.Nat.{ℕ}
@@ -7,14 +8,16 @@ use lib.ListN.{drop}
 use Rattle.records.specs.Records.{Entry, Parsed, unread, parsed, reading}
 use Rattle.records.specs.Files.{writings, AllWhole}
 use Rattle.memory.specs.Memory.{Holds}
-use Rattle.model.specs.Book.{new}
+use Rattle.model.specs.Book.{Book, new}
 use Rattle.model.specs.Answers.{answer}
-use Rattle.model.specs.History.{run}
+use Rattle.model.specs.History.{runFrom, run}
 use Rattle.model.specs.Promises.{Promises}
 use Rattle.model.specs.PromiseLaws.{promises}
+use Rattle.model.specs.Kept.{Kept}
+use Rattle.model.specs.KeptLaws.{kept-new, kept-run}
 use Rattle.standing.specs.Standing.{rowsOf, view}
-use Rattle.standing.specs.Good.{good}
-use Rattle.standing.specs.StandingLaws.{view-is}
+use Rattle.standing.specs.Made.{Sound}
+use Rattle.standing.specs.StandingLaws.{view-is, sound-of}
 use Rattle.book.specs.declared.calls.Answer.{Answer}
 use Rattle.book.specs.declared.bytes.Fed.{Fed}
 use Rattle.book.specs.Called.{answerOf, Called}
@@ -22,45 +25,57 @@ use Rattle.book.specs.CalledLaws.{next-holds}
 use Rattle.book.specs.Feeding.{FedBy, FedAt, Ran}
 use Rattle.book.specs.FeedingLaws.{reads-written}
 
--- ---- a memory and the calls that made it, the latest first: that of a new book, and that after a call on one that was reached
-pub data Reached : List ℕ → List ℤ → List Entry → Type 0 where
-  fresh : {counts : List ℕ} {money : List ℤ} → Holds counts money (rowsOf new) → Reached counts money []
+-- ---- a memory and the calls that made it from a book's, the latest first: that of the book, and that after a call on one that was reached
+pub data Reached (b : Book) : List ℕ → List ℤ → List Entry → Type 0 where
+  first : {counts : List ℕ} {money : List ℤ} → Holds counts money (rowsOf b) → Reached b counts money []
   after : {counts counts′ : List ℕ} {money money′ : List ℤ} {h : List Entry} {e : Entry} {r : Answer}
-      → Reached counts money h → Called counts money e r counts′ money′ → Reached counts′ money′ (e ∷ h)
+      → Reached b counts money h → Called counts money e r counts′ money′ → Reached b counts′ money′ (e ∷ h)
 
--- the book read off the memory is the model's after the same calls, the memory is just that of this book, and its promises are kept
+-- the book read off the memory is the model's after the same calls, the memory is just that of this book, and it can be called again
+pub record JoinedFrom (b : Book) (counts : List ℕ) (money : List ℤ) (h : List Entry) : Type 0 where
+  pub views : view counts money ≡ runFrom b h
+  pub memory : Holds counts money (rowsOf (runFrom b h))
+  pub sound : Sound counts money
+
+module _ {b : Book} (k : Kept b) where
+  holds-from : {counts : List ℕ} {money : List ℤ} (h : List Entry) → Holds counts money (rowsOf (runFrom b h)) → JoinedFrom b counts money h
+  holds-from h m = let next = kept-run k h in record { views = view-is next m; memory = m; sound = sound-of next m }
+
+  reached-holds : {counts : List ℕ} {money : List ℤ} {h : List Entry} → Reached b counts money h → Holds counts money (rowsOf (runFrom b h))
+  unfolding runFrom
+  reached-holds (first m) = m
+  reached-holds (after {h} {e} p c) = next-holds k e h (reached-holds p) (c .memory)
+
+  pub joined-from : {counts : List ℕ} {money : List ℤ} {h : List Entry} → Reached b counts money h → JoinedFrom b counts money h
+  joined-from {h} p = holds-from h (reached-holds p)
+
+  -- and each call answers as the model's
+  pub answers-joined : {counts counts′ : List ℕ} {money money′ : List ℤ} {h : List Entry} {e : Entry} {r : Answer}
+      → Reached b counts money h → Called counts money e r counts′ money′ → answerOf (runFrom b (e ∷ h)) r ≡ answer (runFrom b h) e
+  answers-joined {e} {r} p c =
+      ap (λ x. answerOf x r) (sym (joined-from (after p c) .views)) ∙ c .answers ∙ ap (λ x. answer x e) (joined-from p .views)
+
+-- ---- from a new book the promises hold besides
 pub record Joined (counts : List ℕ) (money : List ℤ) (h : List Entry) : Type 0 where
-  pub views : view counts money ≡ run h
-  pub memory : Holds counts money (rowsOf (run h))
+  pub from : JoinedFrom new counts money h
   pub promises : Promises h
 
 holds-joined : {counts : List ℕ} {money : List ℤ} (h : List Entry) → Holds counts money (rowsOf (run h)) → Joined counts money h
-holds-joined h m = record { views = view-is (good h) m; memory = m; promises = promises h }
+holds-joined h m = record { from = holds-from kept-new h m; promises = promises h }
 
-reached-holds : {counts : List ℕ} {money : List ℤ} {h : List Entry} → Reached counts money h → Holds counts money (rowsOf (run h))
-unfolding run
-reached-holds (fresh m) = m
-reached-holds (after {h} {e} p c) = next-holds e h (reached-holds p) (c .memory)
-
-pub joined : {counts : List ℕ} {money : List ℤ} {h : List Entry} → Reached counts money h → Joined counts money h
-joined {h} p = holds-joined h (reached-holds p)
-
--- and each call answers as the model's
-pub answers-joined : {counts counts′ : List ℕ} {money money′ : List ℤ} {h : List Entry} {e : Entry} {r : Answer}
-    → Reached counts money h → Called counts money e r counts′ money′ → answerOf (run (e ∷ h)) r ≡ answer (run h) e
-answers-joined {e} {r} p c =
-    ap (λ b. answerOf b r) (sym (joined (after p c) .views)) ∙ c .answers ∙ ap (λ b. answer b e) (joined p .views)
+pub joined : {counts : List ℕ} {money : List ℤ} {h : List Entry} → Reached new counts money h → Joined counts money h
+joined {h} p = record { from = joined-from kept-new p; promises = promises h }
 
 -- ---- bytes: a record that was read is the next call, and one that was not is none
 abbrev pub withRead : Parsed → List Entry → List Entry
 withRead unread h = h
 withRead (parsed e rest) h = e ∷ h
 
-pub fed-reached : {bytes : List ℕ} {at : ℕ} {counts counts′ : List ℕ} {money money′ : List ℤ} {h : List Entry} {r : Fed}
-    → Reached counts money h → FedAt bytes at counts money r counts′ money′ → Reached counts′ money′ (withRead (reading (drop at bytes)) h)
-fed-reached {bytes} {at} {counts} {counts′} {money} {money′} {h} {r} p f = go (reading (drop at bytes)) (f .outcome)
+pub fed-reached : {b : Book} {bytes : List ℕ} {at : ℕ} {counts counts′ : List ℕ} {money money′ : List ℤ} {h : List Entry} {r : Fed}
+    → Reached b counts money h → FedAt bytes at counts money r counts′ money′ → Reached b counts′ money′ (withRead (reading (drop at bytes)) h)
+fed-reached {b} {bytes} {at} {counts} {counts′} {money} {money′} {h} {r} p f = go (reading (drop at bytes)) (f .outcome)
   where
-    go : (g : Parsed) → FedBy g bytes at counts money r counts′ money′ → Reached counts′ money′ (withRead g h)
+    go : (g : Parsed) → FedBy g bytes at counts money r counts′ money′ → Reached b counts′ money′ (withRead g h)
     go unread (q, (c, m)) = rw (c, m) p
     go (parsed e rest) (a, (q, c)) = after p c
 

@@ -23,6 +23,7 @@ use Rattle.memory.specs.MemoryLaws.{memory-long, contract-is, put-account, acco
 use Rattle.model.specs.Book.{Book, positionsOf, marginsOf}
 use Rattle.model.specs.Calls.{Trade}
 use Rattle.model.specs.Effects.{lotsFor, traded}
+use Rattle.model.specs.KeptLaws.{kept-few}
 use Rattle.standing.specs.Standing.{accountRow, contractRow, rowsOf}
 use Rattle.standing.specs.StandingLaws.{rows-shaped}
 use Rattle.standing.specs.MemberLaws.{listed-row, member-account}
@@ -53,44 +54,44 @@ module _ {c : List ℕ} {m : List ℤ} {h : Header} {t : Trade} {k i j : ℕ} (d
   next = traded book t
 
   shaped : Shaped rows
-  shaped = rows-shaped (d .good)
+  shaped = rows-shaped (d .known)
 
   -- ---- what is loaded
   pub deals-long : Long c m
   deals-long = memory-long rows shaped (d .holds)
 
   pub row-k : k < 6
-  row-k = omega (arith, d .ready .between .contract .below, d .good .few)
+  row-k = omega (arith, d .ready .between .contract .below, kept-few (d .known))
 
   -- the account of a member n in row p
   module _ {n p : ℕ} (s : Stands (book .accounts .members) n p) where
     pub row-below : p < 64
-    row-below = omega (arith, s .below, d .good .sized .members)
+    row-below = omega (arith, s .below, d .known .sized .members)
 
     pub account-in : accountAt c m p ≡ accountRow book n
-    account-in = member-account (d .good) (d .holds) n p (s .below) (s .here)
+    account-in = member-account (d .known) (d .holds) n p (s .below) (s .here)
 
     pub account-sound : {a : Account} → a ≡ accountAt c m p → holdings.Sound 10000 (a .holdings)
-    account-sound e = rw (e ∙ account-in) (held-sound (d .good) (d .ready .between .live) n)
+    account-sound e = rw (e ∙ account-in) (held-sound (d .known) (d .ready .between .live) n)
 
     -- and after the trade
     pub moved-is : {a : Account} {lots : ℤ} → a ≡ accountAt c m p → lotsFor t n ≡ lots
         → withHoldings a (withTrade (a .holdings) k lots (t .rate)) ≡ accountRow next n
     moved-is e l =
         ap₂ (λ (a : Account) lots. withHoldings a (withTrade (a .holdings) k lots (t .rate))) (e ∙ account-in) (sym l)
-        ∙ sym (account-after (d .good) (d .ready .between) n)
+        ∙ sym (account-after (d .known) (d .ready .between) n)
 
   pub answers : {r : Dealt} {margins : List ℕ} {buyer bought seller sold : Account} → r ≡ judged margins k buyer bought seller sold
       → margins ≡ marginsOf book → buyer ≡ accountRow book (t .buyer) → bought ≡ accountRow next (t .buyer)
       → seller ≡ accountRow book (t .seller) → sold ≡ accountRow next (t .seller) → Answers book t r
-  answers q ms a x e y = rw (q, ms, a, x, e, y) (judged-answers (d .good) (d .ready))
+  answers q ms a x e y = rw (q, ms, a, x, e, y) (judged-answers (d .known) (d .ready))
 
   -- ---- what is stored
   abbrev pub sides : Rows
   sides = withAccounts rows (set (set (rows .accounts) i (accountRow next (t .buyer))) j (accountRow next (t .seller)))
 
   six : (n : ℕ) → length (accountRow next n .holdings .positions) ≡ 6
-  six n = padded-length 6 flat (positionsOf next n) (rw (length-map (book .contracts .codes) (next .accounts .position n)) (d .good .few))
+  six n = padded-length 6 flat (positionsOf next n) (rw (length-map (book .contracts .codes) (next .accounts .position n)) (kept-few (d .known)))
 
   bought-shaped : Shaped (withAccounts rows (set (rows .accounts) i (accountRow next (t .buyer))))
   bought-shaped = account-shaped rows shaped i (accountRow next (t .buyer)) (six (t .buyer))
@@ -114,22 +115,22 @@ module _ {c : List ℕ} {m : List ℤ} {h : Header} {t : Trade} {k i j : ℕ} (d
     contract-in : contractAt c′ m′ k ≡ contractRow book (t .code)
     contract-in =
         contract-is sides sides-shaped s k row-k
-        ∙ listed-row (d .good) k (d .ready .between .contract .below)
+        ∙ listed-row (d .known) k (d .ready .between .contract .below)
         ∙ ap (contractRow book) (d .ready .between .contract .here)
 
     pub sides-writable : Writable c′ m′ h t k
     sides-writable = record {
       long = memory-long sides sides-shaped s;
       row = row-k;
-      tally = subst (λ (x : Contract). Sound (x .tally)) (sym contract-in) (d .good .sized .contracts .tallies (t .code));
+      tally = subst (λ (x : Contract). Sound (x .tally)) (sym contract-in) (d .known .sized .contracts .tallies (t .code));
       range = d .range;
       room = rw (d .header) (d .ready .room);
     }
 
     pub all-written : {c″ : List ℕ} {m″ : List ℤ} → Written c′ m′ h t k c″ m″ → Holds c″ m″ (rowsOf next)
     all-written {c″} {m″} w =
-        subst (Holds c″ m″) (traded-rows (d .good) (d .ready .between))
+        subst (Holds c″ m″) (traded-rows (d .known) (d .ready .between))
         (rows-written sides sides-shaped s row-k
-        (ap (λ x. tradedRow x t) contract-in ∙ sym (contract-after (d .good) (d .ready .between)))
+        (ap (λ x. tradedRow x t) contract-in ∙ sym (contract-after (d .known) (d .ready .between)))
         (ap (λ (x : Header). clocked x (t .time) (x .trades + 1)) (d .header))
         (w .counts) (w .money))

@@ -14,9 +14,9 @@ use Rattle.model.specs.Calls.{Trade, trade}
 use Rattle.model.specs.Refusals.{inHours}
 use Rattle.model.specs.Answers.{answered}
 use Rattle.model.specs.RangeLaws.{GoodTrade}
+use Rattle.model.specs.Kept.{Kept}
 use Rattle.standing.specs.Standing.{headerRow, rowsOf}
 use Rattle.standing.specs.Made.{decided}
-use Rattle.standing.specs.Good.{Good}
 use Rattle.standing.specs.DealLaws.{Between}
 use Rattle.dealing.specs.declared.Dealt.{Dealt}
 use Rattle.dealing.specs.declared.Dealt.the-variants.{Refused}
@@ -48,12 +48,12 @@ Found b t (parties.Refused number) = Answers b t (Refused number)
 
 -- whatever book the counts are of
 abbrev pub PartiesOf : List ℕ → Trade → Parties → Type 0
-PartiesOf counts t r = (b : Book) (money : List ℤ) → Good b → Holds counts money (rowsOf b) → Found b t r
+PartiesOf counts t r = (b : Book) (money : List ℤ) → Kept b → Holds counts money (rowsOf b) → Found b t r
 
 -- such a trade, in range, with a book's memory and header
 pub record Deals (counts : List ℕ) (money : List ℤ) (h : Header) (t : Trade) (k i j : ℕ) : Type 0 where
   pub book : Book
-  pub good : Good book
+  pub known : Kept book
   pub holds : Holds counts money (rowsOf book)
   pub header : h ≡ headerRow book
   pub range : GoodTrade t

@@ -15,9 +15,9 @@ use Rattle.model.specs.Calls.{Trade, trade}
 use Rattle.model.specs.Effects.{traded, after}
 use Rattle.model.specs.Refusals.{needs, firstOf, sideTotals}
 use Rattle.model.specs.Answers.{refused, bothSides, answered, kept}
+use Rattle.model.specs.Kept.{Kept}
 use Rattle.standing.specs.Standing.{accountRow, rowsOf}
 use Rattle.standing.specs.Made.{decided}
-use Rattle.standing.specs.Good.{Good}
 use Rattle.standing.specs.StandingLaws.{view-is}
 use Rattle.standing.specs.DealLaws.{side-is}
 use Rattle.dealing.specs.declared.Dealt.{Dealt}
@@ -47,7 +47,7 @@ module _ (b : Book) (t : Trade) where
   tested false false false false false true = refl
   tested false false false false false false = refl
 
-module _ {b : Book} {t : Trade} {k i j : ℕ} (g : Good b) (r : Ready b t k i j) where
+module _ {b : Book} {t : Trade} {k i j : ℕ} (g : Kept b) (r : Ready b t k i j) where
   pub judged-answers : Answers b t (judged (marginsOf b) k
       (accountRow b (t .buyer)) (accountRow (traded b t) (t .buyer)) (accountRow b (t .seller)) (accountRow (traded b t) (t .seller)))
   judged-answers =
@@ -70,7 +70,7 @@ unfolding after
 accepted-keeps b t x y zero e = refl
 accepted-keeps b t x y (suc d) e = let z : _≡_ {A = ℕ} 0 1 = cc in absurd (omega arith)
 
-module _ {c : List ℕ} {m : List ℤ} {b : Book} {t : Trade} (g : Good b) (h : Holds c m (rowsOf b)) where
+module _ {c : List ℕ} {m : List ℤ} {b : Book} {t : Trade} (g : Kept b) (h : Holds c m (rowsOf b)) where
   answers-traded : {c′ : List ℕ} {m′ : List ℤ} {r : Dealt} → Answers b t r → Holds c′ m′ (rowsOf (kept (decided b (trade t)) b (trade t)))
       → Traded c m t r c′ m′
   answers-traded {c′} {m′} {r} a k =

@@ -21,12 +21,13 @@ use Rattle.model.specs.Book.{Book, new}
 use Rattle.model.specs.Calls.{Call, start, enrol, payIn, payOut, release, setSpecial, setLimits, opening, trade, quote, settle, refresh, close, unknown, Trade, callOf}
 use Rattle.model.specs.Refusals.{sideTotals, refusal}
 use Rattle.model.specs.Answers as model
-use Rattle.model.specs.History.{step, run, log, noted, atTrade}
+use Rattle.model.specs.History.{runFrom, step, run, log, noted, atTrade}
 use Rattle.model.specs.StepLaws.{accepted-by}
 use Rattle.model.specs.RangeLaws.{Ranged, ranges}
+use Rattle.model.specs.KeptLaws.{kept-new, known}
+use Rattle.standing.specs.Made.{Sound}
 use Rattle.standing.specs.Standing.{rowsOf, view}
-use Rattle.standing.specs.Good.{good}
-use Rattle.standing.specs.StandingLaws.{view-is}
+use Rattle.standing.specs.StandingLaws.{view-is, sound-of}
 use Rattle.book.specs.declared.calls.Answer.{Answer}
 use Rattle.book.specs.declared.calls.Answer.the-variants.{Refused, Done, BothSides, Closed}
 use Rattle.book.specs.declared.bytes.Fed.{Fed}
@@ -44,7 +45,7 @@ use Rattle.particulars.specs.Particulars.{standingOf}
 use Rattle.desk.specs.Lines.{Closing}
 use Rattle.desk.specs.Trails.{isSide, rowOf, rowsToday, Trailed}
 use Rattle.desk.specs.TrailLaws.{rows-room}
-use Rattle.desk.specs.Follows.{tradeIn, rowWith, rowFor, Kept, Tabled, Notable, FollowedOn, FollowedBy, FollowedAt}
+use Rattle.desk.specs.Follows.{tradeIn, rowWith, rowFor, Kept, Tabled, Notable, FollowedOn, FollowedBy, FollowedAt, Followable}
 
 -- ---- a trade's fields
 -- the trade of a call, or another for a call that is none
@@ -143,14 +144,14 @@ module _ {n : ℕ} {h : List Entry} {counts : List ℕ} {money : List ℤ} {rowC
     (t : Trailed n h counts money rowCounts rowMoney used) {e : Entry} {a : Answer} {counts′ : List ℕ} {money′ : List ℤ}
     (d : Called counts money e a counts′ money′) where
   seen : view counts money ≡ run h
-  seen = view-is (good h) (t .memory)
+  seen = view-is (known h) (t .memory)
 
   holds : Holds counts′ money′ (rowsOf (run (e ∷ h)))
-  holds = next-holds e h (t .memory) (d .memory)
+  holds = next-holds kept-new e h (t .memory) (d .memory)
 
   pub follow-answers : answerOf (run (e ∷ h)) a ≡ model.answer (run h) e
   follow-answers =
-      ap (λ v. answerOf v a) (sym (view-is (good (e ∷ h)) holds)) ∙ d .answers ∙ ap (λ v. model.answer v e) seen
+      ap (λ v. answerOf v a) (sym (view-is (known (e ∷ h)) holds)) ∙ d .answers ∙ ap (λ v. model.answer v e) seen
 
   it-was : Was h e a
   it-was = was h e (run (e ∷ h)) a follow-answers
@@ -345,10 +346,15 @@ module _ {bytes : List ℕ} {at : ℕ} {counts counts′ : List ℕ} {money mone
       go unread (w, (c, m)) = let here : first ≡ at = cc in (ap Malformed here, (c, (m, (refl, refl))))
       go (parsed e rest) (b, (w, d)) = let z : _≡_ {A = ℕ} 0 1 = cc in absurd (omega arith)
 
+-- ---- a memory and a table of some history can be called and read
+pub followable-sound : {n : ℕ} {counts : List ℕ} {money : List ℤ} {rowCounts : List ℕ} {rowMoney : List ℤ} {used : ℕ}
+    → Followable n counts money rowCounts rowMoney used → Sound counts money
+followable-sound f = sound-of (known (f .history)) (f .trailed .memory)
+
 -- ---- where a desk begins: a new book and an empty table
 pub trail-begins : (n : ℕ) {counts : List ℕ} {money : List ℤ} {rowCounts : List ℕ} {rowMoney : List ℤ} → Holds counts money (rowsOf new)
     → length rowCounts ≡ 30000 → length rowMoney ≡ 60000 → Trailed n [] counts money rowCounts rowMoney 0
-unfolding run log rowsToday tab
+unfolding runFrom log rowsToday tab
 trail-begins n m p q = record { memory = m; rows = refl; counts-long = p; money-long = q }
 
 -- ---- after an accepted close its lines can be asked for, of the rows that the table had before it

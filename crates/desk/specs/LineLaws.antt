@@ -30,19 +30,18 @@ use Rattle.model.specs.Calls.{close}
 use Rattle.model.specs.Effects.{closedDay, after}
 use Rattle.model.specs.Refusals.{tests}
 use Rattle.model.specs.Answers.{called}
-use Rattle.model.specs.History.{run, log, variationIn}
+use Rattle.model.specs.History.{runFrom, run, log, variationIn}
 use Rattle.model.specs.Promises.{worthAt}
 use Rattle.model.specs.StepLaws.{Passed, needed, accepted-by}
 use Rattle.model.specs.RangeLaws.{Ranged, ranges}
 use Rattle.model.specs.RefusalLaws.{accepted-called}
-use Rattle.model.specs.ListedLaws.{settled-open, codes-six}
+use Rattle.model.specs.ListedLaws.{settled-open}
 use Rattle.model.specs.TermLaws.{rate-fair}
-use Rattle.model.specs.BoundLaws.{bounds}
+use Rattle.model.specs.KeptLaws.{known, kept-six}
 use Rattle.model.specs.CloseLaws.{closes-kept}
 use Rattle.standing.specs.Standing.{view}
 use Rattle.standing.specs.Made.{Sound}
-use Rattle.standing.specs.Good.{good}
-use Rattle.standing.specs.StandingLaws.{view-is}
+use Rattle.standing.specs.StandingLaws.{view-is, sound-of}
 use Rattle.trail.specs.declared.Row.{Row}
 use Rattle.trail.specs.Rows.{rowAt, rowsIn, worth, withAmount, priced, earned}
 use Rattle.trail.specs.Tables.{Modest}
@@ -218,11 +217,11 @@ module _ {n : ℕ} {h : List Entry} {e : Entry} {final : ℤ} {counts : List ℕ
 
   -- a day that is closed was open, and six contracts were listed
   six : length codes ≡ 6
-  six = codes-six h (settled-open (b .today .point) (needed 3 tt (passed .0)))
+  six = kept-six (known h) (settled-open (b .today .point) (needed 3 tt (passed .0)))
 
   seen : view counts money ≡ called b e
-  unfolding run
-  seen = view-is (good (e ∷ h)) (j .memory)
+  unfolding runFrom
+  seen = view-is (known (e ∷ h)) (j .memory)
 
   closed-is : called b e ≡ closedDay b final
   unfolding after
@@ -260,17 +259,17 @@ module _ {n : ℕ} {h : List Entry} {e : Entry} {final : ℤ} {counts : List ℕ
     code-listed = has-at codes k (omega (arith, six))
 
   pub closed-sound : Sound counts money
-  closed-sound = record { history = e ∷ h; holds = j .memory }
+  closed-sound = sound-of (known (e ∷ h)) (j .memory)
 
   pub stood-before : StoodBefore (view counts money) s
   stood-before = subst (λ v. StoodBefore v s) (sym (seen ∙ closed-is)) (record {
     codes = codes-are;
     six = ap length codes-are ∙ six;
-    nets = λ k q. subst (Within 20000) (sym (net-is k q)) (bounds h .befores n (getD codes k 0));
-    previous = λ k q. subst (Within 100000) (sym (previous-is k q)) (bounds h .terms (getD codes k 0) .previous);
+    nets = λ k q. subst (Within 20000) (sym (net-is k q)) (known h .sized .dealt .befores n (getD codes k 0));
+    previous = λ k q. subst (Within 100000) (sym (previous-is k q)) (known h .sized .contracts .terms (getD codes k 0) .previous);
     rates = λ k q. subst (λ c. Within 100000 (rateIn (closedDay b final) c)) (sym (code-is k q))
         (subst (λ (x : Settled). Within 100000 (x .rate)) (sym (when-true _ _ (code-listed k q)))
-        (rate-fair b final (bounds h .terms) (bounds h .tallies)
+        (rate-fair b final (known h .sized .contracts .terms) (known h .sized .contracts .tallies)
         (subst Ranged (j .closes) (ranges e (accepted-by b e (j .accepted) .ranges))) (getD codes k 0)));
   })
 

@@ -28,9 +28,10 @@ use Rattle.model.specs.History.{Step, step, run, log, atTrade, atClose, Dated, 
 use Rattle.model.specs.Promises.{worthAt, madeToday, carriedOver, amountOf}
 use Rattle.model.specs.StepLaws.{Passed, needed, accepted-by, induct}
 use Rattle.model.specs.RangeLaws.{GoodTrade, Ranged, ranges}
-use Rattle.model.specs.FrameLaws.{Framed, framed, shut-closed}
+use Rattle.model.specs.Kept.{Framed}
+use Rattle.model.specs.FrameLaws.{shut-closed}
 use Rattle.model.specs.VariationLaws.{before-is}
-use Rattle.model.specs.BoundLaws.{bounds}
+use Rattle.model.specs.KeptLaws.{known}
 use Rattle.model.specs.CloseLaws.{closes-kept}
 use Rattle.trail.specs.declared.Row.{Row}
 use Rattle.trail.specs.Rows.{dealOf, earned}
@@ -141,11 +142,11 @@ module _ (n : ℕ) where
   few-more b l unknown f p i = i
 
   rows-counted : (h : List Entry) → length (rowsToday n (log h)) ≤ run h .today .trades
-  rows-counted = induct Few few-first (λ h e a i. few-more (run h) (log h) (callOf e) (framed h) (a .passed) i)
+  rows-counted = induct Few few-first (λ h e a i. few-more (run h) (log h) (callOf e) (known h .framed) (a .passed) i)
 
   -- "trades in a day | 0 | 10,000"
   pub rows-few : (h : List Entry) → length (rowsToday n (log h)) ≤ 10000
-  rows-few h = omega (arith, rows-counted h, bounds h .trades)
+  rows-few h = omega (arith, rows-counted h, known h .sized .today .trades)
 
   -- where a trade is accepted there is room for its row
   pub rows-room : (h : List Entry) (e : Entry) {t : Trade} → refusal (run h) e ≡ 0 → callOf e ≡ trade t → length (rowsToday n (log h)) < 10000
@@ -221,7 +222,7 @@ module _ (n : ℕ) where
 
   pub rows-listed : (h : List Entry) → All (λ r. isListed (run h) (r .code) ≡ true) (rowsToday n (log h))
   rows-listed = induct (λ b l. InListed b (rowsToday n l)) listed-first
-      (λ h e a i. listed-more (run h) (log h) (callOf e) (framed h) (rows-counted h) (a .passed) i)
+      (λ h e a i. listed-more (run h) (log h) (callOf e) (known h .framed) (rows-counted h) (a .passed) i)
 
   -- ---- what they earn
   -- the lines of the trades made today

@@ -13,7 +13,7 @@ use Rattle.model.specs.Calls.{Trade, trade, callOf}
 use Rattle.model.specs.Effects.{withDay, withAccounts, traded, after}
 use Rattle.model.specs.Refusals.{firstOf, tests, refusal}
 use Rattle.model.specs.Answers.{called}
-use Rattle.model.specs.History.{run}
+use Rattle.model.specs.History.{runFrom, run}
 use Rattle.model.specs.StepLaws.{Passed, passed-first, needed, accepted-by}
 use Rattle.model.specs.RefusalLaws.{accepted-called}
 use Rattle.model.specs.Tickets.{exchanged}
@@ -64,7 +64,7 @@ module _ (b : Book) (t : Trade) (e f : Entry) (there : callOf e ≡ trade t) (ba
 
   pub many-times : (h : List Entry) → run h ≡ b → (k : ℕ) → b .today .trades + 2 * k ≤ 10000
       → Recounted b (b .today .trades + 2 * k) (run (again k e f h))
-  unfolding run again
+  unfolding runFrom again
   many-times h is zero room =
       record { tally = b .contracts .tally; is = is ∙ ap (λ n. recounted b n (b .contracts .tally)) (omega arith) }
   many-times h is (suc k) room =

@@ -30,7 +30,7 @@ use Rattle.model.specs.Book.{new}
 use Rattle.model.specs.Calls.{callOf}
 use Rattle.model.specs.Effects.{after}
 use Rattle.model.specs.Refusals.{firstOf, refusal}
-use Rattle.model.specs.History.{run}
+use Rattle.model.specs.History.{runFrom, run}
 use Rattle.model.specs.Entries.{paysIn, settles}
 use Rattle.model.specs.NeighbourLaws.{payment-apart}
 use Rattle.model.specs.CourseLaws.{afterAll, refusals, Course, Runs, further, further-runs}
@@ -46,7 +46,7 @@ unfolding has all funds.newFunds funds.billed funds.paidUp funds.settled funds.p
 paid-up-runs = further-runs (settles ∷ paysIn 2 20000000 ∷ []) at1358 runs-1358 refl
 
 pub two-mornings : TwoMornings
-unfolding run has placeOf all zipped sumZ those larger smaller hundredthUp folded unfolded isWeekend isException isWorking firstWorking lastWorking isCode monthOf monthLength firstDay thirdWednesday settlementDay lastTradingDay meanOf total tallyFrom ruleAt settledFrom positions.total variationAt variation allCarried newHoldings totalsOf isOver atClose overLimit requirement withCore funds.newFunds funds.billed funds.paidUp funds.inDefault funds.settled funds.paidIn closed rising ceilings kinds allWithin new callOf after afterAll firstOf refusal
+unfolding runFrom has placeOf all zipped sumZ those larger smaller hundredthUp folded unfolded isWeekend isException isWorking firstWorking lastWorking isCode monthOf monthLength firstDay thirdWednesday settlementDay lastTradingDay meanOf total tallyFrom ruleAt settledFrom positions.total variationAt variation allCarried newHoldings totalsOf isOver atClose overLimit requirement withCore funds.newFunds funds.billed funds.paidUp funds.inDefault funds.settled funds.paidIn closed rising ceilings kinds allWithin new callOf after afterAll firstOf refusal
 two-mornings = record {
   alike = payment-apart .paid-in 2 (pos 20000000) (run rolled) (paysIn 2 20000000) refl;
   defaults = rw (default-runs .books, paid-up-runs .books) (refl, refl);

@@ -33,11 +33,12 @@ use Rattle.model.specs.Book.{new}
 use Rattle.model.specs.Calls.{Trade, trade, callOf}
 use Rattle.model.specs.Effects.{traded, after}
 use Rattle.model.specs.Refusals.{firstOf, refusal}
-use Rattle.model.specs.History.{run}
+use Rattle.model.specs.History.{runFrom, run}
 use Rattle.model.specs.Entries.{closes}
 use Rattle.model.specs.CourseLaws.{afterAll, refusals, Course, Runs, further, further-runs, opened, opened-runs, atStart, start-runs}
 use Rattle.model.specs.Tickets.{Split, whole, exchanged, InOrder, secondRefusal, PartsAnswered}
 use Rattle.model.specs.SplitLaws.{what-parts-meet, as-written}
+use Rattle.model.specs.KeptLaws.{known}
 use Rattle.examples.specs.ExampleLaws.{six, listing-1339, listing-1342}
 use Rattle.examples.specs.Tickets.{enrolTwo, buys, sells, openDay, goShort, MeetsLimit, busy, FindsFull, lastHour, ChangesRule}
 use Rattle.examples.specs.BusyLaws.{Recounted, still-passes, many-times}
@@ -138,7 +139,7 @@ unfolding has placeOf all zipped sumZ rising folded unfolded ceilings kinds allW
 ticket-passes = refl
 
 pub finds-full : FindsFull
-unfolding run
+unfolding runFrom
 finds-full = record { counted = count; whole = passes; first = answers .first-passes; second = answers .second-answered ∙ full }
   where
     count : run busy .today .trades ≡ 9999
@@ -153,7 +154,7 @@ finds-full = record { counted = count; whole = passes; first = answers .first-pa
     in-order = record { hours = (refl, refl); clock = rw (ap (λ c. c .today .clock) (busy-is .is) ∙ bought-now .0); order = refl }
 
     answers : PartsAnswered ticket (run busy) (buys 34200 300) (buys 34200 400)
-    answers = what-parts-meet ticket (run busy) _ _ _ (as-written ticket busy passes in-order (omega arith) (omega arith))
+    answers = what-parts-meet ticket (run busy) _ _ _ (as-written ticket (run busy) (known busy) passes in-order (omega arith) (omega arith))
 
     full : secondRefusal ticket (run busy) ≡ 16
     full = rw count

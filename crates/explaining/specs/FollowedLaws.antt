@@ -16,7 +16,6 @@ use Rattle.model.specs.Book.{new}
 use Rattle.model.specs.Calls.{callOf}
 use Rattle.model.specs.RangeLaws.{GoodTrade, ranges}
 use Rattle.standing.specs.Standing.{rowsOf, view}
-use Rattle.standing.specs.Made.{Sound}
 use Rattle.dealing.specs.Dealing.{tradeOf}
 use Rattle.book.specs.declared.calls.Answer.{Answer}
 use Rattle.book.specs.declared.calls.Answer.the-variants.{Closed}
@@ -36,10 +35,6 @@ use Rattle.desk.specs.LineLaws.{closed-table}
 pub good-trade : (fields exceptions : List ℕ) → checked 8 fields exceptions ≡ Passed → GoodTrade (tradeOf (dealIn fields))
 unfolding callOf
 good-trade fields exceptions passed = ranges (entry 8 fields exceptions) (ap refusalOf passed)
-
-pub followable-sound : {n : ℕ} {counts : List ℕ} {money : List ℤ} {rowCounts : List ℕ} {rowMoney : List ℤ} {used : ℕ}
-    → Followable n counts money rowCounts rowMoney used → Sound counts money
-followable-sound f = record { history = f .history; holds = f .trailed .memory }
 
 -- a new book, with an empty table
 pub fresh-followable : (n : ℕ) {counts : List ℕ} {money : List ℤ} {rowCounts : List ℕ} {rowMoney : List ℤ}

@@ -12,7 +12,7 @@ use Rattle.explaining.specs.declared.followed.State.{State}
 use Rattle.explaining.specs.declared.run.Turn.{Turn}
 use Rattle.explaining.specs.declared.run.Turn.the-variants.{On, Ended, Damaged}
 use Rattle.explaining.specs.States.{Further, GoesOn, Carried}
-use Rattle.explaining.specs.FollowedLaws.{followable-sound}
+use Rattle.desk.specs.FollowLaws.{followable-sound}
 
 fewer : (b : Bool) {x y : ℕ} → x < y → cond b 0 x < y
 fewer true h = omega arith

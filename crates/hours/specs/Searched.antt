@@ -12,15 +12,15 @@ use Rattle.lists.specs.declared.Found.the-variants.{At, Nothing}
 use Rattle.memory.specs.Layout.{headerAt, codeAt, numberAt}
 use Rattle.memory.specs.Memory.{Holds}
 use Rattle.model.specs.Book.{Book, isListed}
+use Rattle.model.specs.Kept.{Kept}
 use Rattle.standing.specs.Standing.{rowsOf}
-use Rattle.standing.specs.Good.{Good}
 use Rattle.standing.specs.MemberLaws.{member-search, code-search}
 use Rattle.standing.specs.DealLaws.{Stands}
 
 stands : (keys : List ℕ) (key place : ℕ) → seek (λ i. getD keys i 0) key (length keys) 0 ≡ At place → Stands keys key place
 stands keys key place e = let f = found-at keys key place e in record { below = f .0; here = f .1 .0 }
 
-module _ {b : Book} {c : List ℕ} {m : List ℤ} (g : Good b) (h : Holds c m (rowsOf b)) where
+module _ {b : Book} {c : List ℕ} {m : List ℤ} (g : Kept b) (h : Holds c m (rowsOf b)) where
   pub code-at : (code k : ℕ) → seek (codeAt c) code (headerAt c .listed) 0 ≡ At k → Stands (b .contracts .codes) code k
   code-at code k e = stands (b .contracts .codes) code k (sym (code-search g h code) ∙ e)
 

@@ -15,11 +15,9 @@ use Rattle.memory.specs.Memory.{Holds}
 use Rattle.memory.specs.MemoryLaws.{put-account}
 use Rattle.model.specs.Book.{Book, Held, holding, besides, positionsOf, holdingsOf, replaced}
 use Rattle.model.specs.Effects.{withHeld, after}
-use Rattle.model.specs.History.{run}
-use Rattle.standing.specs.Standing.{accountRow, rowsOf}
+use Rattle.standing.specs.Standing.{accountRow, rowsOf, view}
 use Rattle.standing.specs.Made.{Sound, Made}
-use Rattle.standing.specs.Good.{good}
-use Rattle.standing.specs.StandingLaws.{made}
+use Rattle.standing.specs.StandingLaws.{sound-kept, sound-holds}
 use Rattle.standing.specs.MemberLaws.{held-row}
 use Rattle.standing.specs.SoundLaws.{sound-shaped, none-left}
 use Rattle.places.specs.Places.{placeIn}
@@ -51,7 +49,7 @@ module _ (b : Book) (n : ℕ) where
 module _ {c : List ℕ} {m : List ℤ} (s : Sound c m) (n : ℕ) (x : Change) {p : Place}
     (finds : p ≡ placeIn c (ltb 0 (headerAt c .point)) n) where
   abbrev book : Book
-  book = run (s .history)
+  book = view c m
 
   pub change-refused : {number : ℕ} → p ≡ Refused number → Made c m (changeCall n x) number c m
   change-refused = refused-place s n (changeCall n x) (ltb 0) [] (change-names book n x) finds
@@ -65,8 +63,8 @@ module _ {c : List ℕ} {m : List ℤ} (s : Sound c m) (n : ℕ) (x : Change) {p
 
     holds-changed : Holds (withAccountCounts c i after-row) (withAccountMoney m i after-row) (rowsOf (after book (changeCall n x)))
     holds-changed =
-        subst (Holds _ _) (held-row (good (s .history)) n i (changer .below) (changer .is) _ ∙ ap rowsOf (sym (change-after book n x)))
-        (put-account (rowsOf book) (sound-shaped s) (s .holds) i (changer .small) after-row)
+        subst (Holds _ _) (held-row (sound-kept s) n i (changer .below) (changer .is) _ ∙ ap rowsOf (sym (change-after book n x)))
+        (put-account (rowsOf book) (sound-shaped s) (sound-holds s) i (changer .small) after-row)
 
     pub changed-made : {a a′ : Account} {c′ : List ℕ} {m′ : List ℤ} → a ≡ accountAt c m i → a′ ≡ withHoldings a (changed (a .holdings) x)
         → c′ ≡ withAccountCounts c i a′ → m′ ≡ withAccountMoney m i a′ → Made c m (changeCall n x) 0 c′ m′
@@ -74,4 +72,4 @@ module _ {c : List ℕ} {m : List ℤ} (s : Sound c m) (n : ℕ) (x : Change) {p
         let same = ap (λ (r : Account). withHoldings r (changed (r .holdings) x)) (reads ∙ changer .row) in
         let sets = ap (withHoldings (accountRow book n)) (changed-besides (book .accounts .held n) _ (positionsOf book n) x) in
         rw (counts, money, changes ∙ same ∙ sets)
-        (made s (changeCall n x) 0 (sym (changer .decides ∙ none-left)) holds-changed)
+        (record { answers = sym (changer .decides ∙ none-left); memory = holds-changed })

@@ -23,21 +23,20 @@ use Rattle.model.specs.Book.{Book, isMember}
 use Rattle.model.specs.Calls.{enrol}
 use Rattle.model.specs.Effects.{after}
 use Rattle.model.specs.Refusals.{needs, firstOf, isStarted}
-use Rattle.model.specs.History.{run}
-use Rattle.standing.specs.Standing.{headerRow, rowsOf}
+use Rattle.model.specs.Kept.{Kept}
+use Rattle.standing.specs.Standing.{headerRow, rowsOf, view}
 use Rattle.standing.specs.Made.{Sound, decided, Made}
-use Rattle.standing.specs.Good.{Good, good}
-use Rattle.standing.specs.StandingLaws.{made, refused-made}
+use Rattle.standing.specs.StandingLaws.{refused-made, sound-kept, sound-holds}
 use Rattle.standing.specs.MemberLaws.{oneMore, member-at, member-none, enrolled-rows}
 use Rattle.standing.specs.SoundLaws.{sound-shaped, first-passed, first-failed, none-left}
 use Rattle.keeping.specs.HeaderLaws.{same-header, same-point}
 
 module _ {c : List ℕ} {m : List ℤ} (s : Sound c m) (n : ℕ) (l : Limits) {h : Header} (loads : h ≡ headerAt c) where
   abbrev book : Book
-  book = run (s .history)
+  book = view c m
 
-  abbrev g : Good book
-  g = good (s .history)
+  abbrev g : Kept book
+  g = sound-kept s
 
   same : headerRow book ≡ h
   same = same-header s loads
@@ -58,11 +57,11 @@ module _ {c : List ℕ} {m : List ℤ} (s : Sound c m) (n : ℕ) (l : Limits) {h
     pub enrol-known : {i : ℕ} → f ≡ At i → Made c m (enrol n l) 6 c m
     enrol-known {i} e =
         refused-made s (enrol n l) 5
-        (first-passed 3 _ started ∙ first-failed 5 _ (ap not (member-at g (s .holds) n i (sym finds ∙ e) .1 .1)))
+        (first-passed 3 _ started ∙ first-failed 5 _ (ap not (member-at g (sound-holds s) n i (sym finds ∙ e) .1 .1)))
 
     module _ (e : f ≡ Nothing) where
       fresh : isMember book n ≡ false
-      fresh = member-none g (s .holds) n (sym finds ∙ e)
+      fresh = member-none g (sound-holds s) n (sym finds ∙ e)
 
       room-decides : decided book (enrol n l) ≡ firstOf (needs (ltb (length (book .accounts .members)) 64) 7 ∷ [])
       room-decides = first-passed 3 _ started ∙ first-passed 6 _ (ap not fresh)
@@ -82,12 +81,13 @@ module _ {c : List ℕ} {m : List ℤ} (s : Sound c m) (n : ℕ) (l : Limits) {h
             rw (← same)
             (subst (Holds _ _) (enrolled-rows g n fresh l space)
             (put-account (withHeaderRow (rowsOf book) more) (header-shaped (rowsOf book) (sound-shaped s) more)
-            (put-header (rowsOf book) (sound-shaped s) (s .holds) more) (length (book .accounts .members)) space _))
+            (put-header (rowsOf book) (sound-shaped s) (sound-holds s) more) (length (book .accounts .members)) space _))
 
         pub enrolled-made : {a : Account} {c₁ c′ : List ℕ} {m′ : List ℤ} → a ≡ newAccount n l (h .reference) → c₁ ≡ withHeader c (oneMore h)
             → c′ ≡ withAccountCounts c₁ (h .members) a → m′ ≡ withAccountMoney m (h .members) a → Made c m (enrol n l) 0 c′ m′
         enrolled-made makes heads counts money =
             rw (counts, money, heads, makes)
-            (made s (enrol n l) 0
-            (sym (room-decides ∙ first-passed 7 [] (same-members ∙ lt-ltb (h .members) 64 room) ∙ none-left))
-            holds-enrolled)
+            (record {
+              answers = sym (room-decides ∙ first-passed 7 [] (same-members ∙ lt-ltb (h .members) 64 room) ∙ none-left);
+              memory = holds-enrolled;
+            })

@@ -7,14 +7,13 @@ use lib.IntN.{ℤ}
 use Rattle.memory.specs.declared.header_row.Header.{Header}
 use Rattle.memory.specs.Layout.{headerAt}
 use Rattle.model.specs.Refusals.{isStarted}
-use Rattle.model.specs.History.{run}
-use Rattle.standing.specs.Standing.{headerRow}
+use Rattle.standing.specs.Standing.{headerRow, view}
 use Rattle.standing.specs.Made.{Sound}
 use Rattle.standing.specs.SoundLaws.{sound-header}
 
 module _ {c : List ℕ} {m : List ℤ} (s : Sound c m) {h : Header} (loads : h ≡ headerAt c) where
-  pub same-header : headerRow (run (s .history)) ≡ h
+  pub same-header : headerRow (view c m) ≡ h
   same-header = sym (loads ∙ sound-header s)
 
-  pub same-point : isStarted (run (s .history) .today .point) ≡ ltb 0 (h .point)
+  pub same-point : isStarted (view c m .today .point) ≡ ltb 0 (h .point)
   same-point = ap (λ (x : Header). ltb 0 (x .point)) same-header

@@ -16,17 +16,16 @@ use Rattle.model.specs.Book.{Book, Settings}
 use Rattle.model.specs.Calls.{start}
 use Rattle.model.specs.Effects.{after}
 use Rattle.model.specs.Refusals.{isStarted}
-use Rattle.model.specs.History.{run}
-use Rattle.standing.specs.Standing.{headerRow, rowsOf}
+use Rattle.standing.specs.Standing.{headerRow, rowsOf, view}
 use Rattle.standing.specs.Made.{Sound, Made}
-use Rattle.standing.specs.StandingLaws.{made, refused-made}
-use Rattle.standing.specs.StartLaws.{clean, startedHeader, started-rows}
+use Rattle.standing.specs.StandingLaws.{refused-made, sound-holds, sound-kept}
+use Rattle.standing.specs.StartLaws.{startedHeader, started-rows}
 use Rattle.standing.specs.SoundLaws.{sound-shaped, first-passed, first-failed, none-left}
 use Rattle.keeping.specs.HeaderLaws.{same-header, same-point}
 
 module _ {c : List ℕ} {m : List ℤ} (s : Sound c m) (x : Settings) {h : Header} (loads : h ≡ headerAt c) where
   abbrev book : Book
-  book = run (s .history)
+  book = view c m
 
   pub start-late : 0 < h .point → Made c m (start x) 3 c m
   start-late e = refused-made s (start x) 2 (first-failed 2 _ (ap not (same-point s loads ∙ lt-ltb 0 (h .point) e)))
@@ -46,12 +45,15 @@ module _ {c : List ℕ} {m : List ℤ} (s : Sound c m) (x : Settings) {h : Heade
       holds-started =
           let begun = startedHeader x (headerRow book) in
           rw (← same-header s loads)
-          (subst (Holds _ _) (started-rows book x (clean (s .history) fresh) room)
+          (subst (Holds _ _) (started-rows book x (sound-kept s .calendar .clean fresh) room)
           (put-exceptions (withHeaderRow (rowsOf book) begun) (header-shaped (rowsOf book) (sound-shaped s) begun)
-          (put-header (rowsOf book) (sound-shaped s) (s .holds) begun) (x .exceptions) room))
+          (put-header (rowsOf book) (sound-shaped s) (sound-holds s) begun) (x .exceptions) room))
 
       pub started-made : {c₁ c′ : List ℕ} → t ≡ true → c₁ ≡ withHeader c (startedHeader x h)
           → c′ ≡ withPart 10 (length (x .exceptions)) c₁ (x .exceptions) → Made c m (start x) 0 c′ m
       started-made d heads writes =
           rw (writes, heads)
-          (made s (start x) 0 (sym (first-passed 3 _ (ap not fresh) ∙ first-passed 18 _ (sym tells ∙ d) ∙ none-left)) holds-started)
+          (record {
+            answers = sym (first-passed 3 _ (ap not fresh) ∙ first-passed 18 _ (sym tells ∙ d) ∙ none-left);
+            memory = holds-started;
+          })

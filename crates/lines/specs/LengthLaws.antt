@@ -13,13 +13,13 @@ use Rattle.rates.specs.declared.Settled.{Settled}
 use Rattle.model.specs.Answers.{Bill, Report, reportOf}
 use Rattle.standing.specs.Standing.{view}
 use Rattle.standing.specs.Made.{Sound}
+use Rattle.standing.specs.StandingLaws.{sound-kept}
 use Rattle.book.specs.Called.{answerOf}
 use Rattle.book.specs.declared.calls.Answer.{Answer}
 use Rattle.book.specs.declared.calls.Answer.the-variants.{Refused, Done, BothSides, Closed}
 use Rattle.lines.specs.Lines.{ok, spaced, line, rateLine, accountLine, houseLine, inOrder, codeLines, memberLines, reportLines, answerText, badText}
 use Rattle.lines.specs.OrderLaws.{in-order-length}
 use Rattle.lines.specs.LineLaws.{block-short}
-use Rattle.lines.specs.KeyLaws.{codes-few, members-few}
 
 pub rate-length : (code : ℕ) (s : Settled) → length (rateLine code s) ≤ 96
 unfolding spaced
@@ -54,10 +54,10 @@ module _ {counts : List ℕ} {money : List ℤ} (s : Sound counts money) where
   shown = reportOf (view counts money)
 
   pub codes-length : length (codeLines shown) ≤ 576
-  codes-length = rows-length _ 96 6 (shown .codes) (λ code. rate-length code (shown .settled code)) (codes-few s)
+  codes-length = rows-length _ 96 6 (shown .codes) (λ code. rate-length code (shown .settled code)) (sound-kept s .keys .few)
 
   pub members-length : length (memberLines shown) ≤ 7680
-  members-length = rows-length _ 120 64 (shown .members) (λ number. account-length number (shown .bill number)) (members-few s)
+  members-length = rows-length _ 120 64 (shown .members) (λ number. account-length number (shown .bill number)) (sound-kept s .sized .members)
 
   pub report-length : length (reportLines shown) ≤ 8310
   report-length =

@@ -1,4 +1,4 @@
--- Promise 7: the book's numbers stay within their bounds after every list of calls.
+-- A book's numbers stay sized, whatever is called.
 use mathlib.Core.Path.{_≡_, refl, sym, ap}
 use mathlib.Core.Bool.{true, false, not, and-eq-true-iff}
 use mathlib.Core.List.{List, [], _∷_}
@@ -15,7 +15,6 @@ use Rattle.lists.specs.Keep.{cond-keeps}
 use Rattle.whole.specs.Within.{Within, wider, lit}
 use Rattle.whole.specs.Sizes.{sizes}
 use Rattle.days.specs.Days.{rising}
-use Rattle.records.specs.Records.{Entry}
 use Rattle.tallies.specs.Day.{inLastHour}
 use Rattle.tallies.specs.Tally.{sideIn}
 use Rattle.positions.specs.Deals.{flat, overnight}
@@ -29,17 +28,16 @@ use Rattle.funds.specs.BoundLaws.{new-sound, new-billed, paid-in-sound, paid-ou
 use Rattle.funds.specs.declared.Funds.{Funds}
 use Rattle.accounts.specs.BoundLaws.{closed-billed}
 use Rattle.model.specs.Book.{Book, Settings, Point, Held, new, isMember, positionsOf, accountOf, replaced}
-use Rattle.model.specs.Calls.{Call, start, enrol, payIn, payOut, release, setSpecial, setLimits, opening, trade, quote, settle, refresh, close, unknown, Trade, Quote, Opening, callOf}
+use Rattle.model.specs.Calls.{Call, start, enrol, payIn, payOut, release, setSpecial, setLimits, opening, trade, quote, settle, refresh, close, unknown, Trade, Quote, Opening}
 use Rattle.model.specs.Effects.{withHeld, started, enrolled, paid, codesOn, opened, traded, quoted, settledUp, isEnding, dayEndOf, closedAt, codesLeft, termsLeft, closedDay, after}
 use Rattle.model.specs.Refusals.{isStarted, isOpen, isSettled, tests}
-use Rattle.model.specs.History.{run}
-use Rattle.model.specs.Bounds.{Modest, Bounded}
-use Rattle.model.specs.StepLaws.{Passed, needed, induct}
-use Rattle.model.specs.FrameLaws.{Framed, framed, shut-closed, unstarted-shut}
-use Rattle.model.specs.ListedLaws.{settled-open, open-closed, fresh-closed, open-later, codes-once, codes-few, codes-six}
-use Rattle.model.specs.MoneyLaws.{in-due, out-due, release-due, house-owes}
-use Rattle.model.specs.RangeLaws.{GoodSettings, GoodOpening, GoodTrade, Ranged, ranges}
-use Rattle.model.specs.SizedLaws.{daysOf, Sized, sized-bounded}
+use Rattle.model.specs.Bounds.{Modest}
+use Rattle.model.specs.Kept.{Framed, Listed, daysOf, Sized}
+use Rattle.model.specs.StepLaws.{Passed, needed}
+use Rattle.model.specs.FrameLaws.{shut-closed, unstarted-shut}
+use Rattle.model.specs.ListedLaws.{settled-open, open-closed, fresh-closed, open-later, listed-once, listed-six}
+use Rattle.model.specs.HouseLaws.{in-due, out-due, release-due}
+use Rattle.model.specs.RangeLaws.{GoodSettings, GoodOpening, GoodTrade, Ranged}
 use Rattle.model.specs.DueLaws.{funded-later, funded-new, funded-paid, funded-settled, funded-closed}
 use Rattle.model.specs.CostLaws.{untraded, dealt-new, dealt-more}
 use Rattle.model.specs.TermLaws.{fair-none, tallied-new, opened-fair, closed-fair, tallied-traded, tallied-quoted}
@@ -50,9 +48,9 @@ shut-unsettled : (p : Point) → isOpen p ≡ false → isSettled p ≡ false
 shut-unsettled p h = byTest (isSettled p) (λ e. clash (settled-open p e) h) (λ e. e)
 
 -- ---- a new book
-new-sized : Sized new
+pub sized-new : Sized new
 unfolding new sizes rising
-new-sized = record {
+sized-new = record {
   today = record { day = zero-le; trades = zero-le };
   settings = record { reference = zero-le; multiplier = zero-le; rises = refl; few = zero-le };
   contracts = tallied-new [] _ (λ c. fair-none);
@@ -201,46 +199,38 @@ module _ {b : Book} (s : Sized b) where
         same = open-closed (b .today .day) (b .today .point) (settled-open (b .today .point) late)
 
 -- ---- all calls
-module _ (b : Book) (f : Framed b) (once : Distinct (b .contracts .codes))
-    (six : isOpen (b .today .point) ≡ true → length (b .contracts .codes) ≡ 6) where
-  one-more : (c : Call) → Ranged c → Passed (tests b c) → Sized b → Sized (after b c)
+module _ (b : Book) (f : Framed b) (l : Listed b) where
+  pub sized-after : (c : Call) → Ranged c → Passed (tests b c) → Sized b → Sized (after b c)
   unfolding after
-  one-more (start x) r p s = with-settings s x r (needed 3 tt (p .0))
-  one-more (enrol n l) r p s =
-      with-member s f n l r (not-true (isMember b n) (needed 6 tt (p .1 .0))) (ltb-true _ 64 (needed 7 tt (p .1 .1 .0)))
-  one-more (payIn n x) r p s =
+  sized-after (start x) r p s = with-settings s x r (needed 3 tt (p .0))
+  sized-after (enrol n x) r p s =
+      with-member s f n x (r .limits) (not-true (isMember b n) (needed 6 tt (p .1 .0))) (ltb-true _ 64 (needed 7 tt (p .1 .1 .0)))
+  sized-after (payIn n x) r p s =
       let i = s .funded in
       with-money s n _ (paid-in-sound (i .sound n) x (r .least)) (λ e. paid-in-billed (i .billed e n) x) (in-due _ x)
-  one-more (payOut n x) r p s =
+  sized-after (payOut n x) r p s =
       let i = s .funded in
       with-money s n _ (paid-out-sound (i .sound n) x (r .least)) (λ e. paid-out-billed (i .billed e n) x) (out-due _ x)
-  one-more (release n x) r p s =
+  sized-after (release n x) r p s =
       with-money s n _ (released-sound (s .funded .sound n) x (r .least)) (λ e. clash (needed 3 tt (p .0)) e) (release-due _ x)
-  one-more (setSpecial n x) r p s = with-held s _ (replaced-modest s n _ (special-modest (s .held n) (positionsOf b n) r))
-  one-more (setLimits n l) r p s = with-held s _ (replaced-modest s n _ (limits-modest (s .held n) (positionsOf b n) r))
-  one-more (opening o) r p s = with-open s f o r (shut-closed (b .today .point) (needed 3 tt (p .0))) (open-later b o p)
-  one-more (trade t) r p s =
+  sized-after (setSpecial n x) r p s = with-held s _ (replaced-modest s n _ (special-modest (s .held n) (positionsOf b n) r))
+  sized-after (setLimits n x) r p s = with-held s _ (replaced-modest s n _ (limits-modest (s .held n) (positionsOf b n) r))
+  sized-after (opening o) r p s = with-open s f o r (shut-closed (b .today .point) (needed 3 tt (p .0))) (open-later b o p)
+  sized-after (trade t) r p s =
       let q = p .1 .1 .1 .1 .1 .1 .1 in
-      with-trade s f once t r (ltb-true _ 10000 (needed 16 tt (q .0)))
+      with-trade s f (listed-once b l) t r (ltb-true _ 10000 (needed 16 tt (q .0)))
       (not-true _ (needed 13 tt (q .1 .1 .1 .0)))
       (not-true _ (needed 13 tt (q .1 .1 .1 .1 .0)))
-  one-more (quote q) r p s =
+  sized-after (quote q) r p s =
       with-quote s q (r .rate) (λ e. ltb-true _ 10000 (or-skip _ _ (ap not e) (needed 16 tt (p .1 .1 .1 .1 .0))))
-  one-more settle r p s =
+  sized-after settle r p s =
       let q = and-eq-true-iff (isOpen (b .today .point)) (not (isSettled (b .today .point))) .0 (needed 3 tt (p .0)) in
       with-settlement s (q .0) (not-true _ (q .1))
-  one-more refresh r p s =
+  sized-after refresh r p s =
       with-held s _ (λ n. cond-keeps Modest (isMember b n) _ (b .accounts .held n)
       (λ e. refreshed-modest b n (s .held n) (s .settings .reference))
       (λ e. s .held n))
-  one-more (close final) r p s =
+  sized-after (close final) r p s =
       let late = needed 3 tt (p .0) in
-      with-close s f (six (settled-open (b .today .point) late)) final r late
-  one-more unknown r p s = s
-
-pub sized : (h : List Entry) → Sized (run h)
-sized = induct (λ b l. Sized b) new-sized
-    (λ h e a. one-more (run h) (framed h) (codes-once h) (codes-six h) (callOf e) (ranges e (a .ranges)) (a .passed))
-
-pub bounds : (h : List Entry) → Bounded (run h)
-bounds h = sized-bounded (sized h) (codes-few h) (house-owes h)
+      with-close s f (listed-six b l (settled-open (b .today .point) late)) final r late
+  sized-after unknown r p s = s

@@ -36,8 +36,8 @@ use Rattle.model.specs.SumLaws.{over-left}
 use Rattle.model.specs.StepLaws.{Passed, needed, induct-tests}
 use Rattle.model.specs.RefusalLaws.{accepted-called, accepted-answer}
 use Rattle.model.specs.TodayLaws.{talliable}
-use Rattle.model.specs.FrameLaws.{framed}
-use Rattle.model.specs.MoneyLaws.{variation-by-code, close-due}
+use Rattle.model.specs.HouseLaws.{variation-by-code, close-due}
+use Rattle.model.specs.KeptLaws.{known}
 use Rattle.model.specs.VariationLaws.{worth-sum, position-is, before-is}
 use Rattle.model.specs.Bounds.{totalIn}
 use Rattle.model.specs.Promises.{worthAt, madeToday, carriedOver, amountOf, linesOf, CloseKept}
@@ -161,7 +161,7 @@ closes-kept h e final r q = subst (λ after. CloseKept (run h) after (answer (ru
   answers = accepted-answer (run h) e r q;
   settles = λ c on. when-true _ _ on ∙ settles-by h final c;
   books = λ n c on. books-by h final n c on (when-true _ _ on);
-  bills = λ n m. (bill-is (run h) final n m, close-due (framed h) n final);
+  bills = λ n m. (bill-is (run h) final n m, close-due (known h .framed) n final);
   nets = λ n c. net-left n c (isEnding (run h) c);
   day-ends = day-end-is (run h) final;
   stays = λ c on. let f = those-has _ c (run h .contracts .codes) on in (

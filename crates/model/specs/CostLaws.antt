@@ -21,7 +21,7 @@ use Rattle.model.specs.Effects.{lotsFor}
 use Rattle.model.specs.FrameLaws.{bystander-still}
 use Rattle.model.specs.NaturalLaws.{totalOver, total-more, total-each, total-last, total-sizes-of, onlyAt, total-only}
 use Rattle.model.specs.RangeLaws.{GoodTrade}
-use Rattle.model.specs.SizedLaws.{Dealt}
+use Rattle.model.specs.Kept.{Dealt}
 
 -- ---- sums over accounts and codes of a position's number
 module _ (f : Position → ℤ) where

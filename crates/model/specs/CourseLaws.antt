@@ -18,7 +18,7 @@ use Rattle.model.specs.Calls.{Opening, callOf, opening}
 use Rattle.model.specs.Effects.{openedWith, after}
 use Rattle.model.specs.Refusals.{firstOf, refusal}
 use Rattle.model.specs.Answers.{called, Answer, accepts, answer}
-use Rattle.model.specs.History.{Step, step, run, noted, log, answersTo}
+use Rattle.model.specs.History.{Step, step, runFrom, run, noted, log, answersTo}
 use Rattle.model.specs.Entries.{starts, opens}
 use Rattle.model.specs.StepLaws.{Passed, passes}
 use Rattle.model.specs.RefusalLaws.{accepted-called, accepted-answer}
@@ -55,7 +55,7 @@ abbrev nothing : Course
 nothing = record { calls = []; book = new; steps = [] }
 
 nothing-runs : Runs nothing
-unfolding run log answersTo
+unfolding runFrom log answersTo
 nothing-runs = record { books = refl; logs = refl; answers = refl }
 
 -- ---- with one call more that passes
@@ -63,7 +63,7 @@ abbrev with : Entry → Course → Course
 with e c = record { calls = e ∷ c .calls; book = after (c .book) (callOf e); steps = step (c .book) (callOf e) ∷ c .steps }
 
 with-runs : (e : Entry) (c : Course) → Runs c → refusal (c .book) e ≡ 0 → Runs (with e c)
-unfolding run called log answersTo
+unfolding runFrom called log answersTo
 with-runs e c r p = record {
   books = ap (λ b. called b e) (r .books) ∙ accepted-called (c .book) e p refl;
   logs =

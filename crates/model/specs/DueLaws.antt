@@ -18,9 +18,10 @@ use Rattle.funds.specs.declared.Funds.{Funds}
 use Rattle.model.specs.Book.{Today, replaced}
 use Rattle.model.specs.Refusals.{isSettled}
 use Rattle.model.specs.Bounds.{allBooked}
-use Rattle.model.specs.MoneyLaws.{settled-due}
+use Rattle.model.specs.HouseLaws.{settled-due}
 use Rattle.model.specs.NaturalLaws.{totalOver, total-more, total-each, total-last, total-sizes}
-use Rattle.model.specs.SizedLaws.{daysOf, Funded, unpaid}
+use Rattle.model.specs.Kept.{daysOf, Funded}
+use Rattle.model.specs.SizedLaws.{unpaid}
 
 abbrev duesOf : List ℕ → (ℕ → Funds) → ℕ
 duesOf ms f = sizes (map (λ n. f n .due) ms)

@@ -7,42 +7,13 @@ use lib.ListN.{getD, drop}
 use Rattle.lists.specs.Has.{has}
 use Rattle.lists.specs.HasLaws.{those-all}
 use Rattle.lists.specs.Those.{those}
-use Rattle.days.specs.Days.{isWeekend, isException, isWorking, firstWorking, noLongBreak, accepted}
+use Rattle.days.specs.Days.{accepted}
 use Rattle.calendar.specs.CodeLaws.{only-first}
-use Rattle.records.specs.Records.{Entry}
-use Rattle.model.specs.Book.{Book, new, working}
-use Rattle.model.specs.Calls.{Call, start, enrol, payIn, payOut, release, setSpecial, setLimits}
-use Rattle.model.specs.Calls.{opening, trade, quote, settle, refresh, close, unknown}
-use Rattle.model.specs.Effects.{isEnding, codesLeft, after}
-use Rattle.model.specs.Refusals.{isOpen, tests}
-use Rattle.model.specs.History.{Step, run}
-use Rattle.model.specs.StepLaws.{Passed, needed, induct-tests}
-use Rattle.model.specs.ListedLaws.{Listed, open-codes, open-dated}
-
--- ---- a book's calendar is accepted
-begins : accepted (working new) ≡ true
-unfolding new isWeekend isException isWorking firstWorking noLongBreak
-begins = refl
-
-more : (b : Book) (l : List Step) (c : Call) → Passed (tests b c) → accepted (working b) ≡ true → accepted (working (after b c)) ≡ true
-unfolding after
-more b l (start s) p i = needed 18 tt (p .1 .0)
-more b l (enrol n x) p i = i
-more b l (payIn n x) p i = i
-more b l (payOut n x) p i = i
-more b l (release n x) p i = i
-more b l (setSpecial n x) p i = i
-more b l (setLimits n x) p i = i
-more b l (opening o) p i = i
-more b l (trade t) p i = i
-more b l (quote q) p i = i
-more b l settle p i = i
-more b l refresh p i = i
-more b l (close final) p i = i
-more b l unknown p i = i
-
-pub calendar-accepted : (h : List Entry) → accepted (working (run h)) ≡ true
-calendar-accepted = induct-tests (λ b l. accepted (working b) ≡ true) begins more
+use Rattle.model.specs.Book.{Book, working}
+use Rattle.model.specs.Effects.{isEnding, codesLeft}
+use Rattle.model.specs.Refusals.{isOpen}
+use Rattle.model.specs.Kept.{Listed}
+use Rattle.model.specs.ListedLaws.{open-codes, open-dated}
 
 -- ---- where only the first of some numbers passes a test, the others are left
 but-first : (p : ℕ → Bool) (ks : List ℕ) → ((c k : ℕ) (rest : List ℕ) → ks ≡ c ∷ rest → has k rest ≡ true → p k ≡ false)

@@ -1,43 +1,30 @@
 -- One state has one form: what is not enrolled or not listed reads as zero, and nothing of a day is left once it is closed.
 use mathlib.Core.Path.{_≡_, refl, sym, _∙_, ap}
 use mathlib.Core.Bool.{Bool, true, false, not, cond}
-use mathlib.Core.List.{List, [], _∷_, _++_}
+use mathlib.Core.List.{[], _∷_, _++_}
 use Prim.Native.Nat.{ℕ}
 use borrow.Author.Tests.{not-true}
 use lib.Dec.{eqb}
 use lib.IntN.{ℤ, pos, zero-*ℤ, +ℤ-idr}
 use Rattle.lists.specs.Has.{has}
-use Rattle.lists.specs.HasLaws.{byTest, clash, when-true, when-false, cond-same, neither, has-append, has-one, has-apart, those-lacks, Distinct, distinct-more}
-use Rattle.records.specs.Records.{Entry}
+use Rattle.lists.specs.HasLaws.{byTest, clash, when-true, when-false, cond-same, neither, has-append, has-one, has-apart, those-lacks, distinct-more}
 use Rattle.positions.specs.Deals.{flat, overnight, dealt}
 use Rattle.booking.specs.Carried.{carried}
 use Rattle.positions.specs.declared.Position.{Position}
 use Rattle.positions.specs.declared.Mark.{Mark}
 use Rattle.holdings.specs.declared.Limits.{Limits}
-use Rattle.funds.specs.Funds.{newFunds}
 use Rattle.funds.specs.declared.Funds.{Funds}
-use Rattle.model.specs.Book.{Book, Settings, Point, unstarted, unopened, unsettled, settledToday, ended, noTerms, noTally, noSettled, Held, noHeld, isMember, isListed, replaced, new}
+use Rattle.model.specs.Book.{Book, Settings, Point, unstarted, unopened, unsettled, settledToday, ended, noSettled, Held, isMember, isListed, replaced, new}
 use Rattle.model.specs.Calls.{Call, start, enrol, payIn, payOut, release, setSpecial, setLimits, opening, trade, quote, settle, refresh, close, unknown, Trade, Quote, Opening}
 use Rattle.model.specs.Effects.{withHeld, started, enrolled, paid, codesOn, opened, lotsFor, traded, quoted, settledUp, isEnding, markOf, codesLeft, closedDay, after}
 use Rattle.model.specs.Refusals.{isStarted, isShut, isOpen, tests}
-use Rattle.model.specs.History.{Step, run}
-use Rattle.model.specs.StepLaws.{Passed, needed, induct-tests}
-
-pub record Framed (b : Book) : Type 0 where
-  pub once : Distinct (b .accounts .members)
-  pub strangers : (n : ℕ) → isMember b n ≡ false → (b .accounts .held n ≡ noHeld) × (b .accounts .funds n ≡ newFunds)
-  pub strange-positions : (n c : ℕ) → isMember b n ≡ false → b .accounts .position n c ≡ flat
-  pub unlisted : (n c : ℕ) → isListed b c ≡ false → b .accounts .position n c ≡ flat
-  pub unlisted-terms : (c : ℕ) → isListed b c ≡ false → (b .contracts .terms c ≡ noTerms) × (b .contracts .tally c ≡ noTally)
-  pub shut-tallies : isOpen (b .today .point) ≡ false → (c : ℕ) → b .contracts .tally c ≡ noTally
-  pub shut-positions : isOpen (b .today .point) ≡ false → (n c : ℕ) → b .accounts .position n c ≡ overnight (b .accounts .position n c .net)
-  pub shut-trades : isOpen (b .today .point) ≡ false → b .today .trades ≡ 0
-  pub unanswered : (c : ℕ) → has c (b .results .codes) ≡ false → b .results .settled c ≡ noSettled
+use Rattle.model.specs.Kept.{Framed}
+use Rattle.model.specs.StepLaws.{Passed, needed}
 
 -- ---- a new book
-new-framed : Framed new
+pub framed-new : Framed new
 unfolding new has
-new-framed = record {
+framed-new = record {
   once = tt;
   strangers = λ n h. (refl, refl);
   strange-positions = λ n c h. refl;
@@ -234,22 +221,20 @@ module _ {b : Book} (i : Framed b) where
       stays : (c : ℕ) → isEnding b c ≡ false → has c (codesLeft b) ≡ false → isListed b c ≡ false
       stays c e h = those-lacks (λ k. not (isEnding b k)) c (b .contracts .codes) h (ap not e)
 
-more : (b : Book) (l : List Step) (c : Call) → Passed (tests b c) → Framed b → Framed (after b c)
+-- ---- all calls
+pub framed-after : (b : Book) (c : Call) → Passed (tests b c) → Framed b → Framed (after b c)
 unfolding after
-more b l (start s) p i = started-framed i s (unstarted-shut (b .today .point) (needed 3 tt (p .0)))
-more b l (enrol n x) p i = enrolled-framed i n x (not-true (isMember b n) (needed 6 tt (p .1 .0)))
-more b l (payIn n x) p i = paid-framed i n _ (needed 5 tt (p .1 .0))
-more b l (payOut n x) p i = paid-framed i n _ (needed 5 tt (p .1 .0))
-more b l (release n x) p i = paid-framed i n _ (needed 5 tt (p .1 .0))
-more b l (setSpecial n x) p i = held-framed i _ (replaced-away i (b .accounts .held) n _ (needed 5 tt (p .1 .0)))
-more b l (setLimits n x) p i = held-framed i _ (replaced-away i (b .accounts .held) n _ (needed 5 tt (p .1 .0)))
-more b l (opening o) p i = opened-framed i o (shut-closed (b .today .point) (needed 3 tt (p .0)))
-more b l (trade t) p i = traded-framed i t (needed 3 tt (p .0)) (needed 8 tt (p .1 .0)) (needed 5 tt (p .1 .1 .0)) (needed 5 tt (p .1 .1 .1 .0))
-more b l (quote q) p i = quoted-framed i q (needed 3 tt (p .0)) (needed 8 tt (p .1 .0))
-more b l settle p i = settled-framed i
-more b l refresh p i = held-framed i _ (λ n h. when-false _ _ h)
-more b l (close final) p i = closed-framed i final
-more b l unknown p i = i
-
-pub framed : (h : List Entry) → Framed (run h)
-framed = induct-tests (λ b l. Framed b) new-framed more
+framed-after b (start s) p i = started-framed i s (unstarted-shut (b .today .point) (needed 3 tt (p .0)))
+framed-after b (enrol n x) p i = enrolled-framed i n x (not-true (isMember b n) (needed 6 tt (p .1 .0)))
+framed-after b (payIn n x) p i = paid-framed i n _ (needed 5 tt (p .1 .0))
+framed-after b (payOut n x) p i = paid-framed i n _ (needed 5 tt (p .1 .0))
+framed-after b (release n x) p i = paid-framed i n _ (needed 5 tt (p .1 .0))
+framed-after b (setSpecial n x) p i = held-framed i _ (replaced-away i (b .accounts .held) n _ (needed 5 tt (p .1 .0)))
+framed-after b (setLimits n x) p i = held-framed i _ (replaced-away i (b .accounts .held) n _ (needed 5 tt (p .1 .0)))
+framed-after b (opening o) p i = opened-framed i o (shut-closed (b .today .point) (needed 3 tt (p .0)))
+framed-after b (trade t) p i = traded-framed i t (needed 3 tt (p .0)) (needed 8 tt (p .1 .0)) (needed 5 tt (p .1 .1 .0)) (needed 5 tt (p .1 .1 .1 .0))
+framed-after b (quote q) p i = quoted-framed i q (needed 3 tt (p .0)) (needed 8 tt (p .1 .0))
+framed-after b settle p i = settled-framed i
+framed-after b refresh p i = held-framed i _ (λ n h. when-false _ _ h)
+framed-after b (close final) p i = closed-framed i final
+framed-after b unknown p i = i

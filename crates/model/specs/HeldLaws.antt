@@ -33,7 +33,7 @@ use Rattle.model.specs.Effects.{dayEndOf, closedAt}
 use Rattle.model.specs.Bounds.{allBooked, Modest}
 use Rattle.model.specs.NaturalLaws.{totalOver, total-spread}
 use Rattle.model.specs.TermLaws.{rate-fair}
-use Rattle.model.specs.SizedLaws.{daysOf, Sized}
+use Rattle.model.specs.Kept.{daysOf, Sized}
 
 -- ---- with positions and without
 pub none-modest : Modest noHeld

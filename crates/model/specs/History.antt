@@ -17,10 +17,13 @@ use Rattle.model.specs.Effects.{paidTo, isEnding, settledAt, markOf}
 use Rattle.model.specs.Refusals.{refusal}
 use Rattle.model.specs.Answers.{called, Answer, answer}
 
--- ---- the book after the calls, and the accepted ones with the book before each
-unfoldable pub run : List Entry → Book
-run [] = new
-run (e ∷ h) = called (run h) e
+-- ---- the book after the calls, from any book and from a new one; and the accepted calls with the book before each
+unfoldable pub runFrom : Book → List Entry → Book
+runFrom b [] = b
+runFrom b (e ∷ h) = called (runFrom b h) e
+
+abbrev pub run : List Entry → Book
+run h = runFrom new h
 
 -- what the calls of a list answer, the latest first
 unfoldable pub answersTo : List Entry → List Answer

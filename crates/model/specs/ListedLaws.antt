@@ -27,34 +27,10 @@ use Rattle.model.specs.Answers.{called}
 use Rattle.model.specs.History.{Step, step, run, log, hasEnded}
 use Rattle.model.specs.Bounds.{closedDays}
 use Rattle.model.specs.Promises.{OpenKept}
+use Rattle.model.specs.Kept.{Framed, codesAt, isDated, Listed}
 use Rattle.calendar.specs.CodeLaws.{isPast, past-none, past-later, code-below, codes-distinct, codes-length, code-runs, code-lasts, code-stays}
-use Rattle.model.specs.StepLaws.{Passed, needed, accepted-by, induct, induct-tests}
-use Rattle.model.specs.FrameLaws.{Framed, framed}
+use Rattle.model.specs.StepLaws.{Passed, needed, accepted-by, induct-tests}
 use Rattle.model.specs.RefusalLaws.{accepted-called}
-
--- ---- by the point of the day
-abbrev pub codesAt : (ℕ → Bool) → Point → ℕ → List ℕ
-codesAt w unstarted day = []
-codesAt w unopened day = []
-codesAt w unsettled day = listing w day .codes
-codesAt w settledToday day = listing w day .codes
-codesAt w ended day = those (λ c. not (isOn day (lastTradingOf w c))) (listing w day .codes)
-
--- a day has been opened
-abbrev pub isDated : Point → Bool
-isDated unstarted = false
-isDated unopened = false
-isDated unsettled = true
-isDated settledToday = true
-isDated ended = true
-
-pub record ListedAt (w : ℕ → Bool) (p : Point) (day : ℕ) (codes : List ℕ) : Type 0 where
-  pub works : isDated p ≡ true → w day ≡ true
-  pub known : isDated p ≡ true → listing w day .known ≡ true
-  pub lists : codes ≡ codesAt w p day
-
-abbrev pub Listed : Book → Type 0
-Listed b = ListedAt (working b) (b .today .point) (b .today .day) (b .contracts .codes)
 
 -- ---- what the tests on the point tell
 fresh-codes : (w : ℕ → Bool) (day : ℕ) (p : Point) → not (isStarted p) ≡ true → codesAt w p day ≡ []
@@ -99,48 +75,45 @@ fresh-closed day unsettled e = clash e refl
 fresh-closed day settledToday e = clash e refl
 fresh-closed day ended e = clash e refl
 
--- ---- after every list of calls
-begins : Listed new
+-- ---- a new book, and all calls
+pub listed-new : Listed new
 unfolding new
-begins = record { works = λ e. clash e refl; known = λ e. clash e refl; lists = refl }
+listed-new = record { works = λ e. clash e refl; known = λ e. clash e refl; lists = refl }
 
-pub listed-more : (b : Book) (l : List Step) (c : Call) → Passed (tests b c) → Listed b → Listed (after b c)
+pub listed-after : (b : Book) (c : Call) → Passed (tests b c) → Listed b → Listed (after b c)
 unfolding after
-listed-more b l (start s) p i = record {
+listed-after b (start s) p i = record {
   works = λ e. clash e refl;
   known = λ e. clash e refl;
   lists = i .lists ∙ fresh-codes (working b) (b .today .day) (b .today .point) (needed 3 tt (p .0));
 }
-listed-more b l (enrol n x) p i = i
-listed-more b l (payIn n x) p i = i
-listed-more b l (payOut n x) p i = i
-listed-more b l (release n x) p i = i
-listed-more b l (setSpecial n x) p i = i
-listed-more b l (setLimits n x) p i = i
-listed-more b l (opening o) p i = record {
+listed-after b (enrol n x) p i = i
+listed-after b (payIn n x) p i = i
+listed-after b (payOut n x) p i = i
+listed-after b (release n x) p i = i
+listed-after b (setSpecial n x) p i = i
+listed-after b (setLimits n x) p i = i
+listed-after b (opening o) p i = record {
   works = λ e. needed 4 tt (p .1 .0);
   known = λ e. needed 4 tt (p .1 .1 .1 .0);
   lists = refl;
 }
-listed-more b l (trade t) p i = i
-listed-more b l (quote q) p i = i
-listed-more b l settle p i =
+listed-after b (trade t) p i = i
+listed-after b (quote q) p i = i
+listed-after b settle p i =
     let o = and-eq-true-iff (isOpen (b .today .point)) (not (isSettled (b .today .point))) .0 (needed 3 tt (p .0)) .0 in record {
       works = λ e. i .works (open-dated (b .today .point) o);
       known = λ e. i .known (open-dated (b .today .point) o);
       lists = i .lists ∙ open-codes (working b) (b .today .day) (b .today .point) o;
     }
-listed-more b l refresh p i = i
-listed-more b l (close final) p i =
+listed-after b refresh p i = i
+listed-after b (close final) p i =
     let o = settled-open (b .today .point) (needed 3 tt (p .0)) in record {
       works = λ e. i .works (open-dated (b .today .point) o);
       known = λ e. i .known (open-dated (b .today .point) o);
       lists = ap (those (λ c. not (isEnding b c))) (i .lists ∙ open-codes (working b) (b .today .day) (b .today .point) o);
     }
-listed-more b l unknown p i = i
-
-pub listed : (h : List Entry) → Listed (run h)
-listed = induct-tests (λ b l. Listed b) begins listed-more
+listed-after b unknown p i = i
 
 -- ---- the codes themselves
 module _ (w : ℕ → Bool) (day : ℕ) where
@@ -171,46 +144,23 @@ module _ (w : ℕ → Bool) (day : ℕ) where
   at-from c settledToday h = (refl, h)
   at-from c ended h = (refl, left-of c h .0)
 
-pub codes-once : (h : List Entry) → Distinct (run h .contracts .codes)
-codes-once h = let i = listed h in rw (i .lists) (at-distinct (working (run h)) (run h .today .day) (run h .today .point) (i .known))
+module _ (b : Book) (i : Listed b) where
+  pub listed-once : Distinct (b .contracts .codes)
+  listed-once = rw (i .lists) (at-distinct (working b) (b .today .day) (b .today .point) (i .known))
 
-pub codes-few : (h : List Entry) → length (run h .contracts .codes) ≤ 6
-codes-few h = let i = listed h in rw (i .lists) (at-few (working (run h)) (run h .today .day) (run h .today .point) (i .known))
+  pub listed-few : length (b .contracts .codes) ≤ 6
+  listed-few = rw (i .lists) (at-few (working b) (b .today .day) (b .today .point) (i .known))
 
-pub codes-six : (h : List Entry) → isOpen (run h .today .point) ≡ true → length (run h .contracts .codes) ≡ 6
-codes-six h o =
-    let i = listed h in
-    ap length (i .lists ∙ open-codes (working (run h)) (run h .today .day) (run h .today .point) o)
-    ∙ codes-length (working (run h)) (run h .today .day) (i .known (open-dated (run h .today .point) o))
+  pub listed-six : isOpen (b .today .point) ≡ true → length (b .contracts .codes) ≡ 6
+  listed-six o =
+      ap length (i .lists ∙ open-codes (working b) (b .today .day) (b .today .point) o)
+      ∙ codes-length (working b) (b .today .day) (i .known (open-dated (b .today .point) o))
 
--- what the last close answered for were the codes listed then
-settled-more : (b : Book) (c : Call) → length (b .contracts .codes) ≤ 6 → length (b .results .codes) ≤ 6 → length (after b c .results .codes) ≤ 6
-unfolding after
-settled-more b (start s) f i = i
-settled-more b (enrol n x) f i = i
-settled-more b (payIn n x) f i = i
-settled-more b (payOut n x) f i = i
-settled-more b (release n x) f i = i
-settled-more b (setSpecial n x) f i = i
-settled-more b (setLimits n x) f i = i
-settled-more b (opening o) f i = i
-settled-more b (trade t) f i = i
-settled-more b (quote q) f i = i
-settled-more b settle f i = i
-settled-more b refresh f i = i
-settled-more b (close final) f i = f
-settled-more b unknown f i = i
-
-pub settled-few : (h : List Entry) → length (run h .results .codes) ≤ 6
-unfolding new
-settled-few = induct (λ b l. length (b .results .codes) ≤ 6) (omega arith) (λ h e a. settled-more (run h) (callOf e) (codes-few h))
-
-pub codes-below : (h : List Entry) (c : ℕ) → has c (run h .contracts .codes) ≡ true → c < 10000
-codes-below h c e =
-    let i = listed h in
-    let f = at-from (working (run h)) (run h .today .day) c (run h .today .point) (rw (i .lists) at e) in
-    let r = code-runs (working (run h)) (run h .today .day) (i .known (f .0)) c (f .1) in
-    subst (λ x. x < 10000) (r .code) (code-below (r .month) (r .below))
+  pub listed-below : (c : ℕ) → isListed b c ≡ true → c < 10000
+  listed-below c e =
+      let f = at-from (working b) (b .today .day) c (b .today .point) (rw (i .lists) at e) in
+      let r = code-runs (working b) (b .today .day) (i .known (f .0)) c (f .1) in
+      subst (λ x. x < 10000) (r .code) (code-below (r .month) (r .below))
 
 -- ---- a code whose last trading day is closed
 abbrev pub hasPassed : Book → ℕ → Bool
@@ -341,12 +291,9 @@ ended-more c b l (close final) p i e = byTest (isListed b c && isEnding b c)
     (λ d. still-passed b (close final) p c (i (or-skip (isListed b c && isEnding b c) (hasEnded c l) d e)))
 ended-more c b l unknown p i e = still-passed b unknown p c (i e)
 
-ended-passed : (c : ℕ) (h : List Entry) → hasEnded c (log h) ≡ true → hasPassed (run h) c ≡ true
+pub ended-passed : (c : ℕ) (h : List Entry) → hasEnded c (log h) ≡ true → hasPassed (run h) c ≡ true
 unfolding hasEnded
 ended-passed c = induct-tests (λ b l. hasEnded c l ≡ true → hasPassed b c ≡ true) (λ e. clash e refl) (ended-more c)
-
-pub ended-for-good : (h : List Entry) (c : ℕ) → hasEnded c (log h) ≡ true → isListed (run h) c ≡ false
-ended-for-good h c e = passed-unlisted (run h) (listed h) c (ended-passed c h e)
 
 -- ---- an accepted open
 open-kept : (b : Book) (o : Opening) → Passed (tests b (opening o)) → Listed b → Framed b → OpenKept b (after b (opening o)) o
@@ -365,8 +312,7 @@ open-kept b o p i f = record {
       ∙ byTest (isListed b c) (λ e. rw e) (λ e. rw e);
 }
 
-pub opens : (h : List Entry) (e : Entry) (o : Opening) → refusal (run h) e ≡ 0 → callOf e ≡ opening o
-    → OpenKept (run h) (called (run h) e) o
-opens h e o r q =
-    let p : Passed (tests (run h) (opening o)) = subst (λ x. Passed (tests (run h) x)) q (accepted-by (run h) e r .passed) in
-    subst (λ x. OpenKept (run h) x o) (sym (accepted-called (run h) e r q)) (open-kept (run h) o p (listed h) (framed h))
+pub opens : (b : Book) → Listed b → Framed b → (e : Entry) (o : Opening) → refusal b e ≡ 0 → callOf e ≡ opening o → OpenKept b (called b e) o
+opens b i f e o r q =
+    let p : Passed (tests b (opening o)) = subst (λ x. Passed (tests b x)) q (accepted-by b e r .passed) in
+    subst (λ x. OpenKept b x o) (sym (accepted-called b e r q)) (open-kept b o p i f)

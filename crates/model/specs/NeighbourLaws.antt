@@ -1,7 +1,6 @@
 -- A settlement looks at one account at a time.
 use mathlib.Core.Path.{_≡_, refl, sym, ap, ap₂, _∙_, subst, fun-ext}
 use mathlib.Core.Bool.{Bool, true, false, cond}
-use mathlib.Core.List.{List, _∷_}
 use Prim.Native.Nat.{ℕ, zero, suc}
 use borrow.Author.Tests.{eqb-true, eq-eqb}
 use lib.Dec.{eqb}
@@ -18,12 +17,11 @@ use Rattle.model.specs.Calls.{Call, payIn, payOut, settle, callOf}
 use Rattle.model.specs.Effects.{withFunds, paid, after}
 use Rattle.model.specs.Refusals.{refusal}
 use Rattle.model.specs.Answers.{kept, called, answered, answer}
-use Rattle.model.specs.History.{run}
 use Rattle.model.specs.Neighbours.{AlikeButCash, moneyOf, withCash, withMoneyOf, AlikeButMoney, SameMorning, OneDefault, AnyMoney, PaymentApart, unpaid, HouseApart}
 use Rattle.model.specs.RefusalLaws.{accepted-called}
 use Rattle.model.specs.SumLaws.{only, over-away, over-only}
-use Rattle.model.specs.FrameLaws.{Framed, framed}
-use Rattle.model.specs.MoneyLaws.{house-owes}
+use Rattle.model.specs.Kept.{Framed, Kept}
+use Rattle.model.specs.KeptLaws.{kept-called, kept-owes}
 
 -- ---- what the definition says of every other account
 others-same : (k : ℕ) (a b : Book) → AlikeButMoney k a b → (n : ℕ) → eqb n k ≡ false → accountOf a n ≡ accountOf b n
@@ -148,17 +146,17 @@ due-apart k a b h n =
     (λ d. rw (d, eqb-true n k d))
     (λ d. rw (d, ap (λ x. x .funds .due) (others-same k a b h n d)) (+ℤ-invr (dueTo b n)))
 
-houses-apart : (k : ℕ) (h g : List Entry) → AlikeButMoney k (run h) (run g) → run h .house -ℤ run g .house ≡ dueTo (run h) k -ℤ dueTo (run g) k
+houses-apart : (k : ℕ) {a b : Book} → Kept a → Kept b → AlikeButMoney k a b → a .house -ℤ b .house ≡ dueTo a k -ℤ dueTo b k
 unfolding funds.newFunds
-houses-apart k h g same =
-    let ms = run h .accounts .members in
+houses-apart k {a} {b} i j same =
+    let ms = a .accounts .members in
     let one = ap (λ c. c .accounts .members) same in
-    ap₂ _-ℤ_ (house-owes h) (house-owes g ∙ ap (sumOver (dueTo (run g))) (sym one))
-    ∙ sym (over-sub (dueTo (run h)) (dueTo (run g)) ms)
-    ∙ over-ext _ _ ms (due-apart k (run h) (run g) same)
+    ap₂ _-ℤ_ (kept-owes i) (kept-owes j ∙ ap (sumOver (dueTo b)) (sym one))
+    ∙ sym (over-sub (dueTo a) (dueTo b) ms)
+    ∙ over-ext _ _ ms (due-apart k a b same)
     ∙ byTest (has k ms)
-    (over-only k _ ms (framed h .once))
-    (λ m. over-away k _ ms m ∙ sym (ap₂ (λ f f′. f .due -ℤ f′ .due) (framed h .strangers k m .1) (framed g .strangers k (ap (has k) (sym one) ∙ m) .1)))
+    (over-only k _ ms (i .framed .once))
+    (λ m. over-away k _ ms m ∙ sym (ap₂ (λ f f′. f .due -ℤ f′ .due) (i .framed .strangers k m .1) (j .framed .strangers k (ap (has k) (sym one) ∙ m) .1)))
 
 -- what is due after a settlement is what it did not pay
 left-due : (member : Bool) (f : Funds) → (member ≡ false → f ≡ funds.newFunds)
@@ -172,10 +170,9 @@ unfolding after
 still-due b i k = left-due (isMember b k) (b .accounts .funds k) (λ m. i .strangers k m .1)
 
 pub house-apart : HouseApart
-unfolding run
-house-apart k h g same e q r =
-    let s = one-default k (run h) (run g) same e q in
-    houses-apart k (e ∷ h) (e ∷ g) (s .after .no-more) ∙ ap₂ _-ℤ_ (unpaid-after h r) (unpaid-after g (sym (s .refusals) ∙ r))
+house-apart k a b i j same e q r =
+    let s = one-default k a b same e q in
+    houses-apart k (kept-called e i) (kept-called e j) (s .after .no-more) ∙ ap₂ _-ℤ_ (unpaid-after i r) (unpaid-after j (sym (s .refusals) ∙ r))
   where
-    unpaid-after : (l : List Entry) → refusal (run l) e ≡ 0 → dueTo (called (run l) e) k ≡ unpaid (run l) (called (run l) e) k
-    unpaid-after l r = rw (accepted-called (run l) e r q) (still-due (run l) (framed l) k)
+    unpaid-after : {c : Book} → Kept c → refusal c e ≡ 0 → dueTo (called c e) k ≡ unpaid c (called c e) k
+    unpaid-after {c} i r = rw (accepted-called c e r q) (still-due c (i .framed) k)

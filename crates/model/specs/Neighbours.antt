@@ -3,7 +3,6 @@
 -- account and the house may differ." Here the statements only; NeighbourLaws has the theorems.
 use mathlib.Core.Path.{_≡_}
 use mathlib.Core.Bool.{false, cond}
-use mathlib.Core.List.{List, _∷_}
 use Prim.Native.Nat.{ℕ}
 use lib.Dec.{eqb}
 use lib.IntN.{ℤ, pos, _-ℤ_}
@@ -15,7 +14,7 @@ use Rattle.model.specs.Calls.{payIn, payOut, settle, callOf}
 use Rattle.model.specs.Effects.{paid}
 use Rattle.model.specs.Refusals.{refusal}
 use Rattle.model.specs.Answers.{called, answer}
-use Rattle.model.specs.History.{run}
+use Rattle.model.specs.Kept.{Kept}
 
 -- ---- two books that differ in one account
 -- "alike but for the cash of one account": the one, with the other's cash on the account k, is the other
@@ -62,11 +61,11 @@ pub record PaymentApart : Type 0 where
   pub paid-in : (k : ℕ) (amount : ℤ) (b : Book) (e : Entry) → callOf e ≡ payIn k amount → AlikeButCash k b (called b e)
   pub paid-out : (k : ℕ) (amount : ℤ) (b : Book) (e : Entry) → callOf e ≡ payOut k amount → AlikeButCash k b (called b e)
 
--- ---- by how much the house differs, where calls made both books
+-- ---- by how much the house differs, where both books are kept ones
 -- what an accepted settlement has not paid to k: all that was due where k is in default after it, else nothing
 abbrev pub unpaid : Book → Book → ℕ → ℤ
 unpaid before after k = cond (after .accounts .funds k .flag) (before .accounts .funds k .due) (pos 0)
 
 abbrev pub HouseApart : Type 0
-HouseApart = (k : ℕ) (h g : List Entry) → AlikeButCash k (run h) (run g) → (e : Entry) → callOf e ≡ settle → refusal (run h) e ≡ 0
-    → run (e ∷ h) .house -ℤ run (e ∷ g) .house ≡ unpaid (run h) (run (e ∷ h)) k -ℤ unpaid (run g) (run (e ∷ g)) k
+HouseApart = (k : ℕ) (a b : Book) → Kept a → Kept b → AlikeButCash k a b → (e : Entry) → callOf e ≡ settle → refusal a e ≡ 0
+    → called a e .house -ℤ called b e .house ≡ unpaid a (called a e) k -ℤ unpaid b (called b e) k

@@ -5,13 +5,13 @@ use Rattle.model.specs.History.{run}
 use Rattle.model.specs.Promises.{Promises}
 use Rattle.model.specs.RefusalLaws.{refused-same, without-refused}
 use Rattle.model.specs.TradeLaws.{trades-kept}
-use Rattle.model.specs.ListedLaws.{opens, ended-for-good}
+use Rattle.model.specs.ListedLaws.{passed-unlisted, ended-passed, opens}
 use Rattle.model.specs.VariationLaws.{trade-by-trade, net-is}
 use Rattle.model.specs.ZeroLaws.{lots-cancel, variation-cancels}
 use Rattle.model.specs.MoneyLaws.{money-stays, house-owes, house-unpaid, all-contracts}
 use Rattle.model.specs.CloseLaws.{closes-kept}
 use Rattle.model.specs.SizedLaws.{sums-fit}
-use Rattle.model.specs.BoundLaws.{bounds}
+use Rattle.model.specs.KeptLaws.{known, kept-bounded}
 
 pub promises : (h : List Entry) → Promises h
 promises h = record {
@@ -27,8 +27,8 @@ promises h = record {
   closes = closes-kept h;
   refusals = refused-same (run h);
   without-refused = without-refused h;
-  bounds = bounds h;
+  bounds = kept-bounded (known h);
   fits = sums-fit;
-  opens = opens h;
-  ended-for-good = ended-for-good h;
+  opens = opens (run h) (known h .listed) (known h .framed);
+  ended-for-good = λ c e. passed-unlisted (run h) (known h .listed) c (ended-passed c h e);
 }

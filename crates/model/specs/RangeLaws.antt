@@ -13,12 +13,13 @@ use Rattle.whole.specs.Within.{Within, Each, zbound}
 use Rattle.whole.specs.Amounts.{Amount, amount-pos}
 use Rattle.days.specs.Days.{rising}
 use Rattle.folding.specs.Fold.{unfolded}
-use Rattle.fields.specs.Fields.{Quantity, lots, marginRate, referenceRate, clearingLimit, tolerance, specialMargin, amount, multiplier, day, side, rate, ceilings, kinds, fieldsOf, count}
+use Rattle.fields.specs.Fields.{Quantity, account, lots, marginRate, referenceRate, clearingLimit, tolerance, specialMargin, amount, multiplier, day, side, rate, ceilings, kinds, fieldsOf, count}
 use Rattle.ranges.specs.Ranges.{withinCeilings}
 use Rattle.ranges.specs.Cells.{greatest}
 use Rattle.fields.specs.FieldLaws.{Shaped, shape-tells}
 use Rattle.ranges.specs.RangeLaws.{InRange, range-tells, refusal-number, within-values, within-ends}
 use Rattle.records.specs.Records.{Entry, entry}
+use Rattle.holdings.specs.declared.Limits.{Limits}
 use Rattle.holdings.specs.Bounds.{Granted}
 use Rattle.model.specs.Book.{Settings}
 use Rattle.model.specs.Calls.{Call, start, enrol, payIn, payOut, release, setSpecial, setLimits, opening, trade, quote, settle, refresh, close, unknown, Trade, Quote, Opening, callOf}
@@ -36,6 +37,10 @@ pub record GoodSettings (s : Settings) : Type 0 where
   pub rises : rising (s .exceptions) ≡ true
   pub few : length (s .exceptions) ≤ 400
 
+pub record GoodMember (n : ℕ) (l : Limits) : Type 0 where
+  pub number : n ≤ 9999999
+  pub limits : Granted l
+
 pub record GoodOpening (o : Opening) : Type 0 where
   pub day : o .day ≤ 3652
   pub rates : Each 100000 (o .rates)
@@ -52,7 +57,7 @@ pub record GoodQuote (q : Quote) : Type 0 where
 
 abbrev pub Ranged : Call → Type 0
 Ranged (start s) = GoodSettings s
-Ranged (enrol n l) = Granted l
+Ranged (enrol n l) = GoodMember n l
 Ranged (payIn n x) = Amount 100000000000000 x
 Ranged (payOut n x) = Amount 100000000000000 x
 Ranged (release n x) = Amount 100000000000000 x
@@ -106,8 +111,11 @@ by-kind zero f x i = record {
   few = omega (arith, shape i .few, shape i .there);
 }
 by-kind (suc zero) f x i = record {
-  clearing = most i clearingLimit 1 (omega arith) refl;
-  tolerance = amount-pos _ (most i tolerance 2 (omega arith) refl);
+  number = most i account 0 (omega arith) refl;
+  limits = record {
+    clearing = most i clearingLimit 1 (omega arith) refl;
+    tolerance = amount-pos _ (most i tolerance 2 (omega arith) refl);
+  };
 }
 by-kind (suc (suc zero)) f x i = amount-pos _ (most i amount 1 (omega arith) refl)
 by-kind (suc (suc (suc zero))) f x i = amount-pos _ (most i amount 1 (omega arith) refl)

@@ -8,7 +8,7 @@ use Rattle.model.specs.Calls.{Call, callOf}
 use Rattle.model.specs.Effects.{after}
 use Rattle.model.specs.Refusals.{refusal}
 use Rattle.model.specs.Answers.{kept, called, accepts, answer, refused}
-use Rattle.model.specs.History.{run, log, noted, keptCall, acceptedOf}
+use Rattle.model.specs.History.{runFrom, run, log, noted, keptCall, acceptedOf}
 
 -- ---- one call
 module _ (b : Book) (e : Entry) where
@@ -26,7 +26,7 @@ module _ (b : Book) (e : Entry) where
 
 -- ---- a history
 pub without-refused : (h : List Entry) → (run (acceptedOf h) ≡ run h) × (log (acceptedOf h) ≡ log h)
-unfolding run log called acceptedOf
+unfolding runFrom log called acceptedOf
 without-refused [] = (refl, refl)
 without-refused (e ∷ h) = let ih = without-refused h in go (refusal (run h) e) refl (ih .0) (ih .1)
   where

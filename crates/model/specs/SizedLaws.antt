@@ -1,6 +1,5 @@
--- How large a book's numbers are, part by part, each by what it depends on; and that the book is then bounded.
+-- A book whose parts are sized is bounded.
 use mathlib.Core.Path.{_≡_}
-use mathlib.Core.Bool.{false}
 use mathlib.Core.List.{List, [], _∷_, map}
 use Prim.Native.Nat.{ℕ, zero, suc, _+_, _*_, _≤_, zero-le}
 use native.Mathlib.Nat.{le-refl, le-trans, mul-le-mul}
@@ -22,50 +21,10 @@ use Rattle.funds.specs.Funds.{paidUp, inDefault, settled}
 use Rattle.funds.specs.FundsLaws.{settled-keeps}
 use Rattle.funds.specs.Bounds as funds
 use Rattle.funds.specs.declared.Funds.{Funds}
-use Rattle.model.specs.Book.{Book, Point, unstarted, unopened, unsettled, settledToday, ended, Today, Contracts}
+use Rattle.model.specs.Book.{Book, Point, unstarted, unopened, unsettled, settledToday, ended}
 use Rattle.model.specs.Effects.{paidTo}
-use Rattle.model.specs.Refusals.{isSettled}
-use Rattle.model.specs.Bounds.{closedDays, allBooked, Modest, Fair, Bounded, SumsFit}
-use Rattle.model.specs.NaturalLaws.{totalOver}
-use Rattle.model.specs.RangeLaws.{GoodSettings}
-
--- ---- parts
-abbrev pub daysOf : Today → ℕ
-daysOf t = closedDays (t .point) (t .day)
-
-pub record Timely (t : Today) : Type 0 where
-  pub day : t .day ≤ 3652
-  pub trades : t .trades ≤ 10000
-
--- a code's tally has no more than the day's trades
-pub record Tallied (trades : ℕ) (c : Contracts) : Type 0 where
-  pub terms : (k : ℕ) → Fair (c .terms k)
-  pub tallies : (k : ℕ) → tallies.Sound (c .tally k)
-  pub few : (k : ℕ) → c .tally k .trades ≤ trades
-
--- Each account's own costs are those of one side of a trade; the sums over accounts are those of both sides.
-pub record Dealt (trades : ℕ) (codes members : List ℕ) (position : ℕ → ℕ → Position) : Type 0 where
-  pub nets : (n c : ℕ) → Within 20000 (position n c .net)
-  pub befores : (n c : ℕ) → Within 20000 (position n c .before)
-  pub own : (n : ℕ) → costs (map (position n) codes) ≤ trades * 100000000
-  pub costs : totalOver (λ n. costs (map (position n) codes)) members ≤ 2 * trades * 100000000
-  pub lots : totalOver (λ n. sizes (map (λ p. p .net -ℤ p .before) (map (position n) codes))) members ≤ 2 * trades * 1000
-
--- From a close to the next settlement each account is billed.
-pub record Funded (t : Today) (members : List ℕ) (money : ℕ → Funds) : Type 0 where
-  pub sound : (n : ℕ) → funds.Sound (daysOf t) (money n)
-  pub billed : isSettled (t .point) ≡ false → (n : ℕ) → funds.Billed (money n)
-  pub dues : sizes (map (λ n. money n .due) members) ≤ daysOf t * allBooked
-
--- ---- the book's
-pub record Sized (b : Book) : Type 0 where
-  pub today : Timely (b .today)
-  pub settings : GoodSettings (b .settings)
-  pub contracts : Tallied (b .today .trades) (b .contracts)
-  pub members : length (b .accounts .members) ≤ 64
-  pub held : (n : ℕ) → Modest (b .accounts .held n)
-  pub dealt : Dealt (b .today .trades) (b .contracts .codes) (b .accounts .members) (b .accounts .position)
-  pub funded : Funded (b .today) (b .accounts .members) (b .accounts .funds)
+use Rattle.model.specs.Bounds.{closedDays, Bounded, SumsFit}
+use Rattle.model.specs.Kept.{Sized}
 
 -- ---- totals of any number of codes
 total-most : (position : ℕ → Position) (margin : ℕ → ℕ) (codes : List ℕ)

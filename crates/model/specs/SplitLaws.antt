@@ -34,7 +34,6 @@ use Rattle.model.specs.Book.{Book, marginsOf}
 use Rattle.model.specs.Calls.{Trade, trade, callOf}
 use Rattle.model.specs.Effects.{lotsFor, traded, after}
 use Rattle.model.specs.Refusals.{needs, firstOf, inHours, sideTotals, ranged, tests, refusal}
-use Rattle.model.specs.History.{run}
 use Rattle.model.specs.Bounds.{totalIn, limitIn}
 use Rattle.model.specs.StepLaws.{Passed, passed-first, needed, accepted-by}
 use Rattle.model.specs.RefusalLaws.{accepted-called}
@@ -43,7 +42,6 @@ use Rattle.model.specs.TradeLaws.{side-is}
 use Rattle.model.specs.Promises.{sideOf}
 use Rattle.model.specs.Entries.{trades, written}
 use Rattle.model.specs.RangeLaws.{ranged-tells}
-use Rattle.model.specs.BoundLaws.{bounds}
 use Rattle.model.specs.Tickets.{Split, whole, first, second, positionIn, Offered, AsWritten, secondStep, hasRoomForBoth, secondRefusal, WhatPartsMeet, OneSided, SafeFor, SafeSplit, SafeAgain}
 use Rattle.model.specs.TicketLaws.{positions-alike, same-end}
 
@@ -374,8 +372,8 @@ part-in-range t time lots r day least most =
     )
 
 pub as-written : AsWritten
-as-written s h passes i m k =
-    let range = accepted-by (run h) (written (whole s)) passes .ranges in
+as-written s b known passes i m k =
+    let range = accepted-by b (written (whole s)) passes .ranges in
     record {
       tickets = record { wholes = written-says (whole s); firsts = written-says (first s); seconds = written-says (second s) };
       whole-passes = passes;
@@ -387,5 +385,5 @@ as-written s h passes i m k =
       not-beyond = (near (s .buyer), near (s .seller));
     }
   where
-    near : (n : ℕ) → isBeyond (positionIn (run h) n (s .code)) ≡ false
-    near n = le-ltb 20000 _ (bounds h .nets n (s .code) .size)
+    near : (n : ℕ) → isBeyond (positionIn b n (s .code)) ≡ false
+    near n = le-ltb 20000 _ (known .sized .dealt .nets n (s .code) .size)

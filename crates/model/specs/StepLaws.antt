@@ -12,7 +12,7 @@ use Rattle.model.specs.Calls.{Call, callOf}
 use Rattle.model.specs.Effects.{after}
 use Rattle.model.specs.Refusals.{needs, firstOf, ranged, tests, refusal}
 use Rattle.model.specs.Answers.{kept, called}
-use Rattle.model.specs.History.{Step, step, run, log, noted}
+use Rattle.model.specs.History.{Step, step, runFrom, run, log, noted}
 
 -- ---- all tests are passed
 abbrev pub Passed : List ℕ → Type 0
@@ -56,7 +56,7 @@ module _ (P : Book → List Step → Type 0) (begins : P new [])
   turn h e p (suc k) r = p
 
   pub induct : (h : List Entry) → P (run h) (log h)
-  unfolding run log called
+  unfolding runFrom log called
   induct [] = begins
   induct (e ∷ h) = turn h e (induct h) (refusal (run h) e) refl
 

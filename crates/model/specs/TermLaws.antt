@@ -22,7 +22,7 @@ use Rattle.model.specs.Calls.{Trade, Quote, Opening}
 use Rattle.model.specs.Effects.{termsAfter, settledAt, codesLeft, termsLeft}
 use Rattle.model.specs.Bounds.{Fair}
 use Rattle.model.specs.RangeLaws.{GoodOpening, GoodTrade}
-use Rattle.model.specs.SizedLaws.{Tallied}
+use Rattle.model.specs.Kept.{Tallied}
 
 pub fair-none : Fair noTerms
 fair-none = record { previous = wider (lit (pos 0)) tt; margin = zero-le }

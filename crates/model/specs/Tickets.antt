@@ -5,7 +5,6 @@
 use mathlib.Core.Path.{_≡_}
 use mathlib.Core.Logic.{_⊎_}
 use mathlib.Core.Bool.{Bool, true, false, _||_, cond}
-use mathlib.Core.List.{List}
 use Prim.Native.Nat.{ℕ, _+_, _<_}
 use lib.Dec.{eqb, leb, ltb}
 use lib.IntN.{ℤ, pos, negℤ, _+ℤ_}
@@ -22,7 +21,8 @@ use Rattle.model.specs.Calls.{Trade, trade, callOf}
 use Rattle.model.specs.Effects.{withDay, lotsFor, traded}
 use Rattle.model.specs.Refusals.{inHours, ranged, refusal}
 use Rattle.model.specs.Answers.{called}
-use Rattle.model.specs.History.{run, dealFor}
+use Rattle.model.specs.History.{dealFor}
+use Rattle.model.specs.Kept.{Kept}
 use Rattle.model.specs.Bounds.{totalIn, limitIn}
 use Rattle.model.specs.Promises.{worthAt}
 use Rattle.model.specs.Entries.{written}
@@ -119,10 +119,10 @@ pub record Offered (s : Split) (b : Book) (e f g : Entry) : Type 0 where
   -- the sides' nets in the contract are at most 20,000 lots before
   pub not-beyond : (isBeyond (positionIn b (s .buyer) (s .code)) ≡ false) × (isBeyond (positionIn b (s .seller) (s .code)) ≡ false)
 
--- both hold by themselves: nets in a book that calls made, fields in records that people write, where each part has a lot
+-- both hold by themselves: nets in a kept book, fields in records that people write, where each part has a lot
 abbrev pub AsWritten : Type 0
-AsWritten = (s : Split) (h : List Entry) → refusal (run h) (written (whole s)) ≡ 0 → InOrder s (run h) → 0 < s .firstLots → 0 < s .secondLots
-    → Offered s (run h) (written (whole s)) (written (first s)) (written (second s))
+AsWritten = (s : Split) (b : Book) → Kept b → refusal b (written (whole s)) ≡ 0 → InOrder s b → 0 < s .firstLots → 0 < s .secondLots
+    → Offered s b (written (whole s)) (written (first s)) (written (second s))
 
 -- the second part as a side sees it: from the total that the first part leaves to the total that the whole leaves
 abbrev pub secondStep : Split → Book → ℕ → Totals

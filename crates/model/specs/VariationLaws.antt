@@ -29,9 +29,11 @@ use Rattle.model.specs.Effects.{termsAfter, codesOn, codesLeft, isEnding
 use Rattle.model.specs.Refusals.{tests}
 use Rattle.model.specs.History.{Step, step, run, log, atTrade, atClose, Dated, dated, trades, closedTrades, todaysTrades, isSideIn, ownTrades, dealFor, dealsOf, booked, latest}
 use Rattle.model.specs.Promises.{worthAt}
+use Rattle.model.specs.Kept.{Listed}
 use Rattle.model.specs.StepLaws.{Passed, needed, induct}
 use Rattle.model.specs.FrameLaws.{dealt-none}
-use Rattle.model.specs.ListedLaws.{Listed, listed-more, listed, hasPassed, listed-runs, open-keeps, not-passed, ending-passes}
+use Rattle.model.specs.ListedLaws.{listed-after, hasPassed, listed-runs, open-keeps, not-passed, ending-passes}
+use Rattle.model.specs.KeptLaws.{known}
 
 -- ---- trades are those of closed days and today's
 trades-split : (l : List Step) → trades l ≡ closedTrades l ++ todaysTrades l
@@ -85,7 +87,7 @@ worth-is r ds = worth-sum r ds ∙ ap (λ z. pos 250 *ℤ z) (earned-kept r ds �
 
 -- ---- one account in one contract: what was booked, the latest rate, its deals of closed days and of today, its position, the previous
 -- rate, whether the code is listed and whether its last trading day is closed
-pub record Kept (bk lat : ℤ) (done today : List Deal) (p : Position) (previous : ℤ) (on passed : Bool) : Type 0 where
+pub record CellKept (bk lat : ℤ) (done today : List Deal) (p : Position) (previous : ℤ) (on passed : Bool) : Type 0 where
   pub booking : bk ≡ sumOver (worthAt lat) done
   pub position : p ≡ positionOf (p .before) today
   pub before : on ≡ true → p .before ≡ lotsOf done
@@ -123,8 +125,8 @@ flat-today p today e f =
     (sym (+ℤ-idl (lotsOf today)) ∙ ap (λ x. x +ℤ lotsOf today) (sym (ap (λ x. x .before) f)) ∙ ap (λ x. x .net) b, ap (λ x. x .cost) b)
 
 module _ {bk lat : ℤ} {done today : List Deal} {p : Position} {previous : ℤ} {on passed : Bool}
-    (i : Kept bk lat done today p previous on passed) where
-  kept-later : (passed′ : Bool) → (passed′ ≡ false → passed ≡ false) → Kept bk lat done today p previous on passed′
+    (i : CellKept bk lat done today p previous on passed) where
+  kept-later : (passed′ : Bool) → (passed′ ≡ false → passed ≡ false) → CellKept bk lat done today p previous on passed′
   kept-later passed′ later = record {
     booking = i .booking;
     position = i .position;
@@ -135,7 +137,7 @@ module _ {bk lat : ℤ} {done today : List Deal} {p : Position} {previous : ℤ}
   }
 
   kept-trade : (lots : ℕ) (rate : ℤ) (here buys sells : Bool) → (on ≡ false → here ≡ false)
-      → Kept bk lat done (dealsAfter lots rate here buys sells today) (positionAfter lots rate here buys sells p) previous on passed
+      → CellKept bk lat done (dealsAfter lots rate here buys sells today) (positionAfter lots rate here buys sells p) previous on passed
   kept-trade lots rate here buys sells off = record {
     booking = i .booking;
     position = position-more lots rate p today here buys sells (i .position);
@@ -147,8 +149,8 @@ module _ {bk lat : ℤ} {done today : List Deal} {p : Position} {previous : ℤ}
 
   kept-open : (previous′ : ℤ) (on′ passed′ : Bool) → (on ≡ true → on′ ≡ true) → (on ≡ true → previous′ ≡ previous)
       → (on′ ≡ true → passed ≡ false) → (passed′ ≡ false → passed ≡ false)
-      → Kept bk lat done today (cond on′ p flat) previous′ on′ passed′
-  kept-open previous′ on′ passed′ stays keeps runs later = subst (λ x. Kept bk lat done today x previous′ on′ passed′) (sym same) record {
+      → CellKept bk lat done today (cond on′ p flat) previous′ on′ passed′
+  kept-open previous′ on′ passed′ stays keeps runs later = subst (λ x. CellKept bk lat done today x previous′ on′ passed′) (sym same) record {
     booking = i .booking;
     position = i .position;
     before = λ e. byTest on (i .before) (λ d. ap (λ x. x .before) (i .gone d) ∙ sym (i .fresh d (runs e)));
@@ -167,10 +169,10 @@ module _ {bk lat : ℤ} {done today : List Deal} {p : Position} {previous : ℤ}
 
 -- a close at the mark m, of which on′ is left listed
 kept-close : {bk lat : ℤ} {done today : List Deal} {p : Position} {m : Mark} {on passed : Bool}
-    → Kept bk lat done today p (m .previous) on passed
+    → CellKept bk lat done today p (m .previous) on passed
     → (previous′ : ℤ) (on′ passed′ : Bool) → (on′ ≡ true → (on ≡ true) × (m .ending ≡ false) × (previous′ ≡ m .rate))
     → (on′ ≡ false → on ≡ true → m .ending ≡ true) → (m .ending ≡ true → passed′ ≡ true) → (passed′ ≡ false → passed ≡ false)
-    → Kept (bk +ℤ variationAt p m) (cond on (m .rate) lat) (done ++ today) [] (carried p m) previous′ on′ passed′
+    → CellKept (bk +ℤ variationAt p m) (cond on (m .rate) lat) (done ++ today) [] (carried p m) previous′ on′ passed′
 unfolding variationAt
 kept-close {bk} {lat} {done} {today} {p} {m} {on} {passed} i previous′ on′ passed′ left ends passes later = record {
   booking = byTest on booked-on booked-off;
@@ -227,7 +229,7 @@ kept-close {bk} {lat} {done} {today} {p} {m} {on} {passed} i previous′ on′ p
 -- ---- after every list of calls
 abbrev pub Cell : ℕ → ℕ → Book → List Step → Type 0
 Cell n c b l =
-    Kept (booked n c l) (latest c l) (dealsOf n c (closedTrades l)) (dealsOf n c (todaysTrades l))
+    CellKept (booked n c l) (latest c l) (dealsOf n c (closedTrades l)) (dealsOf n c (todaysTrades l))
     (b .accounts .position n c) (b .contracts .terms c .previous) (isListed b c) (hasPassed b c)
 
 module _ (n c : ℕ) where
@@ -255,7 +257,7 @@ module _ (n c : ℕ) where
       kept-open i (termsAfter b (codesOn b (o .day)) o c .previous) (has c (codesOn b (o .day))) (hasPassed (after b (opening o)) c)
       (open-keeps b o p f c)
       (λ e. rw (open-keeps b o p f c e, e))
-      (λ e. not-passed b (opening o) p c (listed-runs (after b (opening o)) (listed-more b l (opening o) p f) c e))
+      (λ e. not-passed b (opening o) p c (listed-runs (after b (opening o)) (listed-after b (opening o) p f) c e))
       (not-passed b (opening o) p c)
   more b l (trade t) p f i =
       rw (deals-more n c (todaysTrades l) (dated (step b (trade t)) t))
@@ -274,7 +276,7 @@ module _ (n c : ℕ) where
   more b l unknown p f i = i
 
   pub cell : (h : List Entry) → Cell n c (run h) (log h)
-  cell = induct (Cell n c) begins (λ h e a i. more (run h) (log h) (callOf e) (a .passed) (listed h) i)
+  cell = induct (Cell n c) begins (λ h e a i. more (run h) (log h) (callOf e) (a .passed) (known h .listed) i)
 
 -- ---- the theorem, and what else is read off
 pub trade-by-trade : (h : List Entry) (n c : ℕ)

@@ -16,11 +16,9 @@ use Rattle.model.specs.Book.{Book, working}
 use Rattle.model.specs.Calls.{Opening, opening}
 use Rattle.model.specs.Effects.{opened, after}
 use Rattle.model.specs.Refusals.{needs, firstOf, isShut, isNext}
-use Rattle.model.specs.History.{run}
-use Rattle.standing.specs.Standing.{rowsOf}
+use Rattle.standing.specs.Standing.{rowsOf, view}
 use Rattle.standing.specs.Made.{Sound, decided, Made}
-use Rattle.standing.specs.Good.{good}
-use Rattle.standing.specs.StandingLaws.{made, refused-made}
+use Rattle.standing.specs.StandingLaws.{refused-made, sound-kept}
 use Rattle.standing.specs.SoundLaws.{exceptionsOf, sound-whole, sound-header, exceptions-are}
 use Rattle.standing.specs.Turns.{Turns}
 use Rattle.standing.specs.OpenRows.{relistedRows, openHeader}
@@ -45,10 +43,10 @@ opensAt counts day = opensOn (exceptionsOf counts) (headerAt counts) day
 
 module _ {counts : List ℕ} {money : List ℤ} (s : Sound counts money) where
   abbrev book : Book
-  book = run (s .history)
+  book = view counts money
 
   pub last-day : headerAt counts .day ≤ 3652
-  last-day = subst (λ (x : Header). x .day ≤ 3652) (sym (sound-header s)) (good (s .history) .sized .today .day)
+  last-day = subst (λ (x : Header). x .day ≤ 3652) (sym (sound-header s)) (sound-kept s .sized .today .day)
 
   -- ---- what the tests decide
   module _ (o : Opening) where
@@ -83,9 +81,9 @@ module _ {counts : List ℕ} {money : List ℤ} (s : Sound counts money) where
               let a = p (rowsOf book) (sound-whole s) in
               subst (Holds (withHeader counts′ h) money′)
               (ap₂ (λ (l : Listing) (x : Header). withHeaderRow (rows l) (openHeader (o .day) x)) is (sound-header s)
-              ∙ open-rows (good (s .history)) o (sym (ap (λ (l : Listing). l .known) is) ∙ known))
+              ∙ open-rows (sound-kept s) o (sym (ap (λ (l : Listing). l .known) is) ∙ known))
               (put-header (rows listingAt) (a .shaped) (a .holds) h)
 
           pub made-open : Made counts money (opening o) 0 (withHeader counts′ (openHeader (o .day) (headerAt counts))) money′
           unfolding after
-          made-open = made s (opening o) 0 (sym (decides ∙ rw (shut, opens, known))) left
+          made-open = record { answers = sym (decides ∙ rw (shut, opens, known)); memory = left }

@@ -30,13 +30,13 @@ use Rattle.memory.specs.MemoryLaws.{memory-long}
 use Rattle.model.specs.Book.{Book, holding, positionsOf, holdingsOf, marginsOf, isMember, isListed}
 use Rattle.model.specs.Calls.{Trade}
 use Rattle.model.specs.Effects.{lotsFor, traded}
-use Rattle.model.specs.History.{run}
 use Rattle.model.specs.RangeLaws.{GoodTrade}
 use Rattle.model.specs.Refusals.{isOpen, sideTotals}
+use Rattle.model.specs.Kept.{Kept}
+use Rattle.model.specs.KeptLaws.{kept-once, kept-six, kept-few}
 use Rattle.standing.specs.Standing.{accountRow, rowsOf, view}
 use Rattle.standing.specs.Made.{Sound}
-use Rattle.standing.specs.Good.{Good, good}
-use Rattle.standing.specs.StandingLaws.{rows-shaped, view-is}
+use Rattle.standing.specs.StandingLaws.{rows-shaped, view-is, sound-kept}
 use Rattle.standing.specs.MemberLaws.{member-account}
 use Rattle.standing.specs.SoundLaws.{sound-header}
 use Rattle.standing.specs.DealLaws.{Stands, held-sound, margins-sound, margins-are}
@@ -69,14 +69,14 @@ row-six b six n =
     (padded-full 6 flat (positionsOf b n) (length-map (b .contracts .codes) (b .accounts .position n) ∙ six))
 
 -- ---- a trade in the contract of row k moves any account by its lots
-module _ {b : Book} (t : Trade) {k : ℕ} (g : Good b) (row : Stands (b .contracts .codes) (t .code) k) (n : ℕ) where
+module _ {b : Book} (t : Trade) {k : ℕ} (g : Kept b) (row : Stands (b .contracts .codes) (t .code) k) (n : ℕ) where
   positions-after : padded 6 flat (positionsOf (traded b t) n) ≡ withDeal (padded 6 flat (positionsOf b n)) k (lotsFor t n) (t .rate)
   unfolding withDeal
   positions-after =
       let was = b .accounts .position n in
       sym (ap (λ p. set (padded 6 flat (positionsOf b n)) k (dealt p (lotsFor t n) (t .rate)))
       (table-at 6 flat was (b .contracts .codes) k (row .below) ∙ ap was (row .here))
-      ∙ table-set 6 flat was (b .contracts .codes) (traded b t .accounts .position n) (t .code) k _ (g .once) (row .below) (row .here)
+      ∙ table-set 6 flat was (b .contracts .codes) (traded b t .accounts .position n) (t .code) k _ (kept-once g) (row .below) (row .here)
       (when-true _ _ (eq-eqb (t .code) (t .code) refl))
       (λ c e. when-false _ _ e))
 
@@ -87,24 +87,24 @@ module _ {b : Book} (t : Trade) {k : ℕ} (g : Good b) (row : Stands (b .contrac
   totals-after : isOpen (b .today .point) ≡ true
       → totalsOf (marginsOf b) (accountRow b n .holdings) (withTrade (accountRow b n .holdings) k (lotsFor t n) (t .rate)) ≡ sideTotals b t n
   totals-after live =
-      ap₂ (totalsOf (marginsOf b)) (row-six b (g .six live) n) (sym holdings-after ∙ row-six (traded b t) (g .six live) n)
+      ap₂ (totalsOf (marginsOf b)) (row-six b (kept-six g live) n) (sym holdings-after ∙ row-six (traded b t) (kept-six g live) n)
 
 -- ---- what is loaded
 module _ {c : List ℕ} {m : List ℤ} {t : Trade} {n k i : ℕ} (d : Proposed c m t n k i) where
   pub proposed-long : Long c m
-  proposed-long = memory-long (rowsOf (d .book)) (rows-shaped (d .good)) (d .holds)
+  proposed-long = memory-long (rowsOf (d .book)) (rows-shaped (d .known)) (d .holds)
 
   pub row-k : k < 6
-  row-k = omega (arith, d .contract .below, d .good .few)
+  row-k = omega (arith, d .contract .below, kept-few (d .known))
 
   pub row-i : i < 64
-  row-i = omega (arith, d .side .below, d .good .sized .members)
+  row-i = omega (arith, d .side .below, d .known .sized .members)
 
   side-in : accountAt c m i ≡ accountRow (d .book) n
-  side-in = member-account (d .good) (d .holds) n i (d .side .below) (d .side .here)
+  side-in = member-account (d .known) (d .holds) n i (d .side .below) (d .side .here)
 
   pub side-sound : {a : Account} → a ≡ accountAt c m i → holdings.Sound 10000 (a .holdings)
-  side-sound e = rw (e ∙ side-in) (held-sound (d .good) (d .live) n)
+  side-sound e = rw (e ∙ side-in) (held-sound (d .known) (d .live) n)
 
   pub nets-after : {a : Account} {after : Holdings} {lots rate : ℤ} → a ≡ accountAt c m i → Within 1000 lots → Within 100000 rate
       → after ≡ withTrade (a .holdings) k lots rate → Nets 21000 (after .positions)
@@ -114,47 +114,41 @@ module _ {c : List ℕ} {m : List ℤ} {t : Trade} {n k i : ℕ} (d : Proposed c
   marginsIn = marginAt c 0 ∷ marginAt c 1 ∷ marginAt c 2 ∷ marginAt c 3 ∷ marginAt c 4 ∷ marginAt c 5 ∷ []
 
   margins-in : {margins : List ℕ} → margins ≡ marginsIn → margins ≡ marginsOf (d .book)
-  margins-in e = e ∙ margins-are (d .good) (d .live) (d .holds)
+  margins-in e = e ∙ margins-are (d .known) (d .live) (d .holds)
 
   pub margins-fit : {margins : List ℕ} → margins ≡ marginsIn → Margins margins
-  margins-fit e = rw (margins-in e) (margins-sound (d .good) (d .live))
+  margins-fit e = rw (margins-in e) (margins-sound (d .known) (d .live))
 
   -- and the totals that it gives
   pub totals-are : {a : Account} {after : Holdings} {margins : List ℕ} {lots rate : ℤ} → a ≡ accountAt c m i → margins ≡ marginsIn
       → after ≡ withTrade (a .holdings) k lots rate → lots ≡ lotsFor t n → rate ≡ t .rate
       → totalsOf margins (a .holdings) after ≡ sideTotals (view c m) t n
   totals-are e ms f l r =
-      rw (f, l, r, e ∙ side-in, margins-in ms) (totals-after t (d .good) (d .contract) n (d .live))
-      ∙ ap (λ x. sideTotals x t n) (sym (view-is (d .good) (d .holds)))
+      rw (f, l, r, e ∙ side-in, margins-in ms) (totals-after t (d .known) (d .contract) n (d .live))
+      ∙ ap (λ x. sideTotals x t n) (sym (view-is (d .known) (d .holds)))
 
 -- ---- what is answered
 module _ {c : List ℕ} {m : List ℤ} (s : Sound c m) where
   abbrev b : Book
-  b = run (s .history)
+  b = view c m
 
-  abbrev g : Good b
-  g = good (s .history)
-
-  seen : b ≡ view c m
-  seen = sym (view-is g (s .holds))
+  abbrev g : Kept b
+  g = sound-kept s
 
   pub open-is : {h : Header} {r : Bool} → h ≡ headerAt c → r ≡ (eqb (h .point) 2 || eqb (h .point) 3) → isOpen (b .today .point) ≡ r
   open-is p q = sym (q ∙ ap (λ (x : Header). eqb (x .point) 2 || eqb (x .point) 3) (p ∙ sound-header s))
 
   module _ (t : Trade) (n : ℕ) where
     pub asked-shut : isOpen (b .today .point) ≡ false → Nothing ≡ askedIn (view c m) t n
-    asked-shut o = subst (λ x. Nothing ≡ askedIn x t n) seen (sym (when-false _ _ o))
+    asked-shut o = sym (when-false _ _ o)
 
     module _ (live : isOpen (b .today .point) ≡ true) where
       pub asked-unlisted : isListed b (t .code) ≡ false → Nothing ≡ askedIn (view c m) t n
-      asked-unlisted l = subst (λ x. Nothing ≡ askedIn x t n) seen (sym (when-true _ _ live ∙ when-false _ _ l))
+      asked-unlisted l = sym (when-true _ _ live ∙ when-false _ _ l)
 
       module _ (listed : isListed b (t .code) ≡ true) where
         pub asked-unknown : isMember b n ≡ false → Nothing ≡ askedIn (view c m) t n
-        asked-unknown e =
-            subst (λ x. Nothing ≡ askedIn x t n) seen (sym (when-true _ _ live ∙ when-true _ _ listed ∙ when-false _ _ e))
+        asked-unknown e = sym (when-true _ _ live ∙ when-true _ _ listed ∙ when-false _ _ e)
 
         pub asked-totals : isMember b n ≡ true → {x : Totals} → x ≡ sideTotals (view c m) t n → Of x ≡ askedIn (view c m) t n
-        asked-totals e {x} p =
-            subst (λ v. x ≡ sideTotals v t n → Of x ≡ askedIn v t n) seen
-            (λ q. ap (λ (y : Totals). Of y) q ∙ sym (when-true _ _ live ∙ when-true _ _ listed ∙ when-true _ _ e)) p
+        asked-totals e p = ap (λ (y : Totals). Of y) p ∙ sym (when-true _ _ live ∙ when-true _ _ listed ∙ when-true _ _ e)

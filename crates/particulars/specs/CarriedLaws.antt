@@ -23,11 +23,11 @@ use Rattle.memory.specs.Rows.{blankContract}
 use Rattle.memory.specs.Layout.{headerAt, contractMoneyAt, codeAt, numberAt, accountAt}
 use Rattle.memory.specs.MemoryLaws.{contract-is, code-is}
 use Rattle.model.specs.Book.{Book}
-use Rattle.model.specs.History.{run}
+use Rattle.model.specs.Kept.{Kept}
+use Rattle.model.specs.KeptLaws.{kept-few}
 use Rattle.standing.specs.Standing.{contractRow, accountRow, rowsOf, view}
 use Rattle.standing.specs.Made.{Sound}
-use Rattle.standing.specs.Good.{Good, good}
-use Rattle.standing.specs.StandingLaws.{view-is}
+use Rattle.standing.specs.StandingLaws.{sound-kept, sound-holds}
 use Rattle.standing.specs.MemberLaws.{member-at, member-none, member-account}
 use Rattle.standing.specs.SoundLaws.{sound-shaped}
 use Rattle.particulars.specs.Particulars.{previousRates, netsBefore, standingOf}
@@ -68,56 +68,49 @@ NetsAt c m n i = (i < 64) × ((h : Holdings) → h ≡ accountAt c m i .holdings
 
 module _ {c : List ℕ} {m : List ℤ} (s : Sound c m) where
   abbrev b : Book
-  b = run (s .history)
+  b = view c m
 
-  abbrev g : Good b
-  g = good (s .history)
-
-  seen : b ≡ view c m
-  seen = sym (view-is g (s .holds))
+  abbrev g : Kept b
+  g = sound-kept s
 
   -- ---- the contracts
   pub codes-are : codeAt c 0 ∷ codeAt c 1 ∷ codeAt c 2 ∷ codeAt c 3 ∷ codeAt c 4 ∷ codeAt c 5 ∷ []
       ≡ padded 6 0 (view c m .contracts .codes)
   unfolding tab
   codes-are =
-      tab-is 0 (codeAt c) 6 _ (parts-long 6 blankContract (contractRow b) (λ x. x .code) (b .contracts .codes) (g .few)) (λ i q.
-      code-is (rowsOf b) (sound-shaped s) (s .holds) i q ∙ part-of-row 6 blankContract (contractRow b) (λ x. x .code) (b .contracts .codes) i)
+      tab-is 0 (codeAt c) 6 _ (parts-long 6 blankContract (contractRow b) (λ x. x .code) (b .contracts .codes) (kept-few g)) (λ i q.
+      code-is (rowsOf b) (sound-shaped s) (sound-holds s) i q ∙ part-of-row 6 blankContract (contractRow b) (λ x. x .code) (b .contracts .codes) i)
       ∙ ap (padded 6 0) (map-id (b .contracts .codes))
-      ∙ ap (λ (x : Book). padded 6 0 (x .contracts .codes)) seen
 
   previous-is : (k : ℕ) → k < 6 → previousAt m k ≡ getD (rowsOf b .contracts) k blankContract .previous
   previous-is k q =
       sym (part-at (pos 0) (contractMoneyAt k) 9 m 0 (omega arith) ∙ ap (λ t. getD m t (pos 0)) (add-zero (contractMoneyAt k)))
-      ∙ ap (λ (x : Contract). x .previous) (contract-is (rowsOf b) (sound-shaped s) (s .holds) k q)
+      ∙ ap (λ (x : Contract). x .previous) (contract-is (rowsOf b) (sound-shaped s) (sound-holds s) k q)
 
   pub previous-are : previousAt m 0 ∷ previousAt m 1 ∷ previousAt m 2 ∷ previousAt m 3 ∷ previousAt m 4 ∷ previousAt m 5 ∷ []
       ≡ previousRates (view c m)
   unfolding tab
   previous-are =
-      tab-is (pos 0) (previousAt m) 6 _ (parts-long 6 blankContract (contractRow b) (λ x. x .previous) (b .contracts .codes) (g .few)) (λ i q.
+      tab-is (pos 0) (previousAt m) 6 _ (parts-long 6 blankContract (contractRow b) (λ x. x .previous) (b .contracts .codes) (kept-few g)) (λ i q.
       previous-is i q ∙ part-of-row 6 blankContract (contractRow b) (λ x. x .previous) (b .contracts .codes) i)
-      ∙ ap previousRates seen
 
   -- ---- an account
   pub nets-none : (n : ℕ) → seek (numberAt c) n (headerAt c .members) 0 ≡ Nothing
       → pos 0 ∷ pos 0 ∷ pos 0 ∷ pos 0 ∷ pos 0 ∷ pos 0 ∷ [] ≡ netsBefore (view c m) n
   nets-none n e =
-      let strange = member-none g (s .holds) n e in
-      sym (table-alike 6 (pos 0) (λ k. b .accounts .position n k .before) (b .contracts .codes) (g .few)
+      let strange = member-none g (sound-holds s) n e in
+      sym (table-alike 6 (pos 0) (λ k. b .accounts .position n k .before) (b .contracts .codes) (kept-few g)
       (λ k. ap (λ (p : Position). p .before) (g .framed .strange-positions n k strange)))
-      ∙ ap (λ x. netsBefore x n) seen
 
   pub nets-at : (n i : ℕ) → seek (numberAt c) n (headerAt c .members) 0 ≡ At i → NetsAt c m n i
   unfolding tab
   nets-at n i e =
-      let at = member-at g (s .holds) n i e in
+      let at = member-at g (sound-holds s) n i e in
       let was = b .accounts .position n in (
         omega (arith, at .0, g .sized .members),
         λ h same.
             let row : h ≡ accountRow b n .holdings =
-            same ∙ ap (λ (a : Account). a .holdings) (member-account g (s .holds) n i (at .0) (at .1 .0)) in
-            tab-is (pos 0) (beforeIn h) 6 _ (parts-long 6 flat was (λ p. p .before) (b .contracts .codes) (g .few)) (λ k q.
-            ap (λ (x : Holdings). beforeIn x k) row ∙ part-of-row 6 flat was (λ p. p .before) (b .contracts .codes) k)
-            ∙ ap (λ x. netsBefore x n) seen,
+            same ∙ ap (λ (a : Account). a .holdings) (member-account g (sound-holds s) n i (at .0) (at .1 .0)) in
+            tab-is (pos 0) (beforeIn h) 6 _ (parts-long 6 flat was (λ p. p .before) (b .contracts .codes) (kept-few g)) (λ k q.
+            ap (λ (x : Holdings). beforeIn x k) row ∙ part-of-row 6 flat was (λ p. p .before) (b .contracts .codes) k),
       )

@@ -9,14 +9,14 @@ use Rattle.model.specs.Book.{Book}
 use Rattle.model.specs.Calls.{Trade}
 use Rattle.model.specs.RangeLaws.{GoodTrade}
 use Rattle.model.specs.Refusals.{isOpen}
+use Rattle.model.specs.Kept.{Kept}
 use Rattle.standing.specs.Standing.{rowsOf}
-use Rattle.standing.specs.Good.{Good}
 use Rattle.standing.specs.DealLaws.{Stands}
 use Rattle.particulars.specs.Particulars.{IsSide}
 
 pub record Proposed (c : List ℕ) (m : List ℤ) (t : Trade) (n k i : ℕ) : Type 0 where
   pub book : Book
-  pub good : Good book
+  pub known : Kept book
   pub holds : Holds c m (rowsOf book)
   pub live : isOpen (book .today .point) ≡ true
   pub contract : Stands (book .contracts .codes) (t .code) k

@@ -1,5 +1,5 @@
 -- The parts that a sound memory's row tells are those of its book.
-use mathlib.Core.Path.{_≡_, sym, _∙_, subst}
+use mathlib.Core.Path.{_≡_, sym, _∙_}
 use mathlib.Core.List.{List}
 use Prim.Native.Nat.{ℕ, _<_}
 use native.Mathlib.Omega.{arith}
@@ -11,15 +11,14 @@ use Rattle.accounts.specs.declared.Account.{Account}
 use Rattle.memory.specs.declared.header_row.Header.{Header}
 use Rattle.memory.specs.Layout.{headerAt, accountAt, numberAt}
 use Rattle.model.specs.Book.{Book}
-use Rattle.model.specs.History.{run}
+use Rattle.model.specs.Kept.{Kept}
 use Rattle.standing.specs.Standing.{accountRow, view}
 use Rattle.standing.specs.Made.{Sound}
-use Rattle.standing.specs.Good.{Good, good}
-use Rattle.standing.specs.StandingLaws.{view-is}
+use Rattle.standing.specs.StandingLaws.{sound-kept, sound-holds}
 use Rattle.standing.specs.MemberLaws.{member-at, member-none, member-account}
 use Rattle.standing.specs.SoundLaws.{sound-header}
 use Rattle.particulars.specs.declared.Parted.the-variants.{With, Unknown}
-use Rattle.particulars.specs.Particulars.{partsOf, partedIn}
+use Rattle.particulars.specs.Particulars.{partedIn}
 use Rattle.particulars.specs.Required.{PartsFit, partsAt}
 
 -- ---- part by part
@@ -50,21 +49,18 @@ pub record PartedAt (c : List ℕ) (m : List ℤ) (n i : ℕ) : Type 0 where
 
 module _ {c : List ℕ} {m : List ℤ} (s : Sound c m) where
   abbrev b : Book
-  b = run (s .history)
+  b = view c m
 
-  abbrev g : Good b
-  g = good (s .history)
-
-  seen : b ≡ view c m
-  seen = sym (view-is g (s .holds))
+  abbrev g : Kept b
+  g = sound-kept s
 
   pub parted-none : (n : ℕ) → seek (numberAt c) n (headerAt c .members) 0 ≡ Nothing → Unknown ≡ partedIn (view c m) n
-  parted-none n e = subst (λ x. Unknown ≡ partedIn x n) seen (sym (when-false _ _ (member-none g (s .holds) n e)))
+  parted-none n e = sym (when-false _ _ (member-none g (sound-holds s) n e))
 
   pub parted-at : (n i : ℕ) → seek (numberAt c) n (headerAt c .members) 0 ≡ At i → PartedAt c m n i
   parted-at n i e =
-      let at = member-at g (s .holds) n i e in
-      let row : accountAt c m i ≡ accountRow b n = member-account g (s .holds) n i (at .0) (at .1 .0) in
+      let at = member-at g (sound-holds s) n i e in
+      let row : accountAt c m i ≡ accountRow b n = member-account g (sound-holds s) n i (at .0) (at .1 .0) in
       record {
         below = omega (arith, at .0, g .sized .members);
         fit = λ {a} {h} p q. rw (p ∙ row, q ∙ sound-header s) (record {
@@ -74,6 +70,5 @@ module _ {c : List ℕ} {m : List ℤ} (s : Sound c m) where
           most = g .sized .settings .multiplier;
         });
         told = λ {a} {h} p q.
-            rw (p ∙ row, q ∙ sound-header s)
-            (subst (λ x. With (partsOf b n) ≡ partedIn x n) seen (sym (when-true _ _ (at .1 .1))));
+            rw (p ∙ row, q ∙ sound-header s) (sym (when-true _ _ (at .1 .1)));
       }

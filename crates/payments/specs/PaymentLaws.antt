@@ -16,11 +16,11 @@ use Rattle.model.specs.Book.{Book}
 use Rattle.model.specs.Effects.{paid, after}
 use Rattle.model.specs.Refusals.{firstOf}
 use Rattle.model.specs.Answers.{kept}
-use Rattle.model.specs.History.{run}
-use Rattle.standing.specs.Standing.{accountRow, rowsOf}
+use Rattle.model.specs.Kept.{Kept}
+use Rattle.model.specs.KeptLaws.{kept-bounded}
+use Rattle.standing.specs.Standing.{accountRow, rowsOf, view}
 use Rattle.standing.specs.Made as standing
-use Rattle.standing.specs.Good.{Good, good}
-use Rattle.standing.specs.StandingLaws.{made}
+use Rattle.standing.specs.StandingLaws.{sound-kept, sound-holds}
 use Rattle.standing.specs.MemberLaws.{funds-row}
 use Rattle.standing.specs.SoundLaws.{sound-shaped}
 use Rattle.places.specs.Places.{placeIn}
@@ -57,10 +57,10 @@ last-test Full = refl
 module _ {c : List ℕ} {m : List ℤ} (s : standing.Sound c m) (way : Way) (n : ℕ) (x : ℤ) {p : Place}
     (finds : p ≡ placeIn c (mayPay way (headerAt c .point)) n) where
   abbrev book : Book
-  book = run (s .history)
+  book = view c m
 
-  abbrev g : Good book
-  g = good (s .history)
+  abbrev g : Kept book
+  g = sound-kept s
 
   pub pay-refused : {number : ℕ} → p ≡ Refused number → standing.Made c m (payCall way n x) number c m
   pay-refused = refused-place s n (payCall way n x) (mayPay way) _ (pay-names book n x way) finds
@@ -75,7 +75,7 @@ module _ {c : List ℕ} {m : List ℤ} (s : standing.Sound c m) (way : Way) (n :
 
       pub payer-sound : bounds.Sound bounds.daysMost (a .funds)
       payer-sound =
-          subst (λ (r : Account). bounds.Sound bounds.daysMost (r .funds)) (sym same) (sound-later (g .bounded .funds n) (g .bounded .days))
+          subst (λ (r : Account). bounds.Sound bounds.daysMost (r .funds)) (sym same) (sound-later (kept-bounded g .funds n) (kept-bounded g .days))
 
       -- a payment changes one row, and any other answer none
       holds-paid : (y : Payment) → after book (payCall way n x) ≡ paid book n (funds.after (book .accounts .funds n) y)
@@ -83,14 +83,14 @@ module _ {c : List ℕ} {m : List ℤ} (s : standing.Sound c m) (way : Way) (n :
       holds-paid (Made f) e =
           rw same
           (subst (Holds _ _) (funds-row g n i (payer .below) (payer .is) f ∙ ap rowsOf (sym e))
-          (put-account (rowsOf book) (sound-shaped s) (s .holds) i (payer .small) (withFunds (accountRow book n) f)))
-      holds-paid InDefault e = s .holds
-      holds-paid TooMuch e = s .holds
-      holds-paid Full e = s .holds
+          (put-account (rowsOf book) (sound-shaped s) (sound-holds s) i (payer .small) (withFunds (accountRow book n) f)))
+      holds-paid InDefault e = sound-holds s
+      holds-paid TooMuch e = sound-holds s
+      holds-paid Full e = sound-holds s
 
       pub paid-made : {y : Payment} {number : ℕ} {c′ : List ℕ} {m′ : List ℤ} → y ≡ paidBy way (a .funds) x → number ≡ funds.refusalOf y
           → c′ ≡ countsPaid c i a y → m′ ≡ moneyPaid m i a y → standing.Made c m (payCall way n x) number c′ m′
       paid-made answers refuses counts money =
           let y = answer book n x way in
           rw (counts, money, refuses, answers ∙ ap (λ (r : Account). paidBy way (r .funds) x) same)
-          (made s (payCall way n x) (funds.refusalOf y) (sym (payer .decides ∙ last-test y)) (holds-paid y (pay-after book n x way)))
+          (record { answers = sym (payer .decides ∙ last-test y); memory = holds-paid y (pay-after book n x way) })

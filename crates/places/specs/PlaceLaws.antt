@@ -14,11 +14,10 @@ use Rattle.memory.specs.Layout.{headerAt, numberAt, accountAt}
 use Rattle.model.specs.Book.{Book, isMember}
 use Rattle.model.specs.Calls.{Call}
 use Rattle.model.specs.Refusals.{needs, firstOf, stage, tests}
-use Rattle.model.specs.History.{run}
-use Rattle.standing.specs.Standing.{accountRow}
+use Rattle.model.specs.Kept.{Kept}
+use Rattle.standing.specs.Standing.{accountRow, view}
 use Rattle.standing.specs.Made.{Sound, decided, Made}
-use Rattle.standing.specs.Good.{Good, good}
-use Rattle.standing.specs.StandingLaws.{refused-made}
+use Rattle.standing.specs.StandingLaws.{refused-made, sound-kept, sound-holds}
 use Rattle.standing.specs.MemberLaws.{member-at, member-none, member-account}
 use Rattle.standing.specs.SoundLaws.{sound-header, first-passed, first-failed}
 use Rattle.places.specs.Places.{placeIn}
@@ -38,12 +37,12 @@ abbrev pub Names : Book → Call → (ℕ → Bool) → ℕ → List ℕ → Typ
 Names b call may n rest = tests b call ≡ needs (may (stage (b .today .point))) 3 ∷ needs (isMember b n) 5 ∷ rest
 
 module _ {c : List ℕ} {m : List ℤ} (s : Sound c m) (n : ℕ) (call : Call) (may : ℕ → Bool) (rest : List ℕ)
-    (e : Names (run (s .history)) call may n rest) {p : Place} (finds : p ≡ placeIn c (may (headerAt c .point)) n) where
+    (e : Names (view c m) call may n rest) {p : Place} (finds : p ≡ placeIn c (may (headerAt c .point)) n) where
   abbrev book : Book
-  book = run (s .history)
+  book = view c m
 
-  abbrev g : Good book
-  g = good (s .history)
+  abbrev g : Kept book
+  g = sound-kept s
 
   abbrev found : Found
   found = seek (numberAt c) n (headerAt c .members) 0
@@ -66,7 +65,7 @@ module _ {c : List ℕ} {m : List ℤ} (s : Sound c m) (n : ℕ) (call : Call) (
       go true d Nothing k r =
           let z : 5 ≡ number = cc in
           subst (λ j. Made c m call j c m) z
-          (refused-made s call 4 (ap firstOf e ∙ first-passed 3 _ (allowed d) ∙ first-failed 4 rest (member-none g (s .holds) n k)))
+          (refused-made s call 4 (ap firstOf e ∙ first-passed 3 _ (allowed d) ∙ first-failed 4 rest (member-none g (sound-holds s) n k)))
 
   pub named : {i : ℕ} → p ≡ Row i → Named book c m call rest n i
   named {i} q = go t refl found refl (sym finds ∙ q)
@@ -77,11 +76,11 @@ module _ {c : List ℕ} {m : List ℤ} (s : Sound c m) (n : ℕ) (call : Call) (
       go true d Nothing k r = let z : _≡_ {A = ℕ} 0 1 = cc in absurd (omega arith)
       go true d (At j) k r =
           let z : j ≡ i = cc in
-          let a = member-at g (s .holds) n i (k ∙ ap At z) in
+          let a = member-at g (sound-holds s) n i (k ∙ ap At z) in
           record {
             decides = ap firstOf e ∙ first-passed 3 _ (allowed d) ∙ first-passed 5 rest (a .1 .1);
             below = a .0;
             is = a .1 .0;
             small = omega (arith, g .sized .members, a .0);
-            row = member-account g (s .holds) n i (a .0) (a .1 .0);
+            row = member-account g (sound-holds s) n i (a .0) (a .1 .0);
           }

@@ -7,9 +7,9 @@ use lib.IntN.{ℤ}
 use Rattle.numbers.specs.Below.{Small}
 use Rattle.memory.specs.Memory.{Holds}
 use Rattle.model.specs.Book.{new}
-use Rattle.model.specs.History.{run}
+use Rattle.model.specs.KeptLaws.{kept-new}
 use Rattle.standing.specs.Standing.{rowsOf, view}
-use Rattle.book.specs.Joined.{fresh, joined}
+use Rattle.standing.specs.StandingLaws.{view-is}
 use Rattle.window.specs.declared.Window.{Window}
 use Rattle.window.specs.Window.{held}
 use Rattle.printing.specs.declared.run.Turn.the-variants.{On, Ended}
@@ -38,5 +38,4 @@ run-prints (next {counts} {money = money} {w = w} {block = block} {more = more} 
 -- ---- a whole file: nothing is read yet, and the book is new
 pub file-prints : {counts : List ℕ} {money : List ℤ} {block file text : List ℕ} → Holds counts money (rowsOf new)
     → Runs counts money (record { from = 0; to = 0; place = 0; ended = false }) block file text → Prints new 0 file text
-unfolding run
-file-prints {file = file} {text} m turns = subst (λ b. Prints b 0 file text) (joined (fresh m) .views) (run-prints turns)
+file-prints {file = file} {text} m turns = subst (λ b. Prints b 0 file text) (view-is kept-new m) (run-prints turns)

@@ -16,11 +16,10 @@ use Rattle.model.specs.Book.{Book, isListed}
 use Rattle.model.specs.Calls.{Quote, quote}
 use Rattle.model.specs.Effects.{quoted, after}
 use Rattle.model.specs.Refusals.{firstOf, isOpen, inHours}
-use Rattle.model.specs.History.{run}
-use Rattle.standing.specs.Standing.{contractRow, rowsOf}
+use Rattle.model.specs.KeptLaws.{kept-few}
+use Rattle.standing.specs.Standing.{contractRow, rowsOf, view}
 use Rattle.standing.specs.Made.{Sound, Made}
-use Rattle.standing.specs.Good.{good}
-use Rattle.standing.specs.StandingLaws.{made, refused-made}
+use Rattle.standing.specs.StandingLaws.{refused-made, sound-kept, sound-holds}
 use Rattle.standing.specs.MemberLaws.{listed-row}
 use Rattle.standing.specs.SoundLaws.{sound-shaped, sound-header}
 use Rattle.standing.specs.DealLaws.{Stands, quoted-contract, quoted-rows}
@@ -30,7 +29,7 @@ use Rattle.quoting.specs.Quotes.{hasRoom, quotedRow}
 
 module _ {c : List ℕ} {m : List ℤ} (s : Sound c m) (q : Quote) where
   abbrev book : Book
-  book = run (s .history)
+  book = view c m
 
   -- ---- the tests
   pub shut : isOpen (book .today .point) ≡ false → Made c m (quote q) 3 c m
@@ -60,28 +59,28 @@ module _ {c : List ℕ} {m : List ℤ} (s : Sound c m) (q : Quote) where
           pub done : {c′ : List ℕ} {m′ : List ℤ} → hasRoom (book .contracts .tally (q .code)) (q .time) (q .side) ≡ true
               → Holds c′ m′ (rowsOf (quoted book q)) → Made c m (quote q) 0 c′ m′
           unfolding firstOf after
-          done e h = made s (quote q) 0 (rw (live, has-here row, hours, clock, e)) h
+          done e h = record { answers = rw (live, has-here row, hours, clock, e); memory = h }
 
   -- ---- what is loaded and stored
   module _ {k : ℕ} (row : Stands (book .contracts .codes) (q .code) k) where
     pub row-small : k < 6
-    row-small = omega (arith, row .below, good (s .history) .few)
+    row-small = omega (arith, row .below, kept-few (sound-kept s))
 
     pub contract-in : contractAt c m k ≡ contractRow book (q .code)
     contract-in =
-        contract-is (rowsOf book) (sound-shaped s) (s .holds) k row-small
-        ∙ listed-row (good (s .history)) k (row .below)
+        contract-is (rowsOf book) (sound-shaped s) (sound-holds s) k row-small
+        ∙ listed-row (sound-kept s) k (row .below)
         ∙ ap (contractRow book) (row .here)
 
     pub tally-sound : {x : Contract} → x ≡ contractAt c m k → SoundTally (x .tally)
-    tally-sound e = rw (e ∙ contract-in) (good (s .history) .sized .contracts .tallies (q .code))
+    tally-sound e = rw (e ∙ contract-in) (sound-kept s .sized .contracts .tallies (q .code))
 
     pub written : {c′ : List ℕ} {m′ : List ℤ} {x : Contract} {h : Header} → x ≡ contractAt c m k → h ≡ headerAt c
         → c′ ≡ withContractCounts (withHeader c (clocked h (q .time) (h .trades))) k (quotedRow x q)
         → m′ ≡ withContractMoney m k (quotedRow x q) → Holds c′ m′ (rowsOf (quoted book q))
     written {c′} {m′} e f u v =
-        subst (Holds c′ m′) (quoted-rows q (good (s .history)) row)
-        (rows-written (rowsOf book) (sound-shaped s) (s .holds) row-small
-        (ap (λ x. quotedRow x q) (e ∙ contract-in) ∙ sym (quoted-contract q (good (s .history)) row))
+        subst (Holds c′ m′) (quoted-rows q (sound-kept s) row)
+        (rows-written (rowsOf book) (sound-shaped s) (sound-holds s) row-small
+        (ap (λ x. quotedRow x q) (e ∙ contract-in) ∙ sym (quoted-contract q (sound-kept s) row))
         (ap (λ (h : Header). clocked h (q .time) (h .trades)) (f ∙ sound-header s))
         u v)

@@ -19,11 +19,10 @@ use Rattle.memory.specs.declared.outcome_rows.Outcome.{Outcome}
 use Rattle.memory.specs.Layout.{headerAt, outcomeAt, accountAt, settledCodeAt, numberAt}
 use Rattle.memory.specs.MemoryLaws.{outcome-is, settled-code-is, number-is}
 use Rattle.model.specs.Book.{Book}
-use Rattle.model.specs.History.{run}
+use Rattle.model.specs.Kept.{Kept}
 use Rattle.standing.specs.Standing.{ruleOf, settledOf, outcomeRow, rowsOf, view}
 use Rattle.standing.specs.Made.{Sound}
-use Rattle.standing.specs.Good.{Good, good}
-use Rattle.standing.specs.StandingLaws.{settled-back, view-is}
+use Rattle.standing.specs.StandingLaws.{settled-back, sound-kept, sound-holds}
 use Rattle.standing.specs.MemberLaws.{member-row, settled-row, outcome-search, member-at, member-none, member-account}
 use Rattle.standing.specs.SoundLaws.{sound-shaped, sound-header}
 use Rattle.reports.specs.declared.Rated.the-variants.{At, NotListed}
@@ -45,46 +44,39 @@ bill-parts a p q r t = rw (p, q, r, t)
 
 module _ {c : List ℕ} {m : List ℤ} (s : Sound c m) where
   abbrev b : Book
-  b = run (s .history)
+  b = view c m
 
-  abbrev g : Good b
-  g = good (s .history)
-
-  seen : b ≡ view c m
-  seen = sym (view-is g (s .holds))
+  abbrev g : Kept b
+  g = sound-kept s
 
   pub sound-settled : headerAt c .settled ≤ 6
-  sound-settled = subst (λ (h : Header). h .settled ≤ 6) (sym (sound-header s)) (g .settled)
+  sound-settled = subst (λ (h : Header). h .settled ≤ 6) (sym (sound-header s)) (g .keys .few)
 
   -- ---- a code's outcome
   pub rated-none : (k : ℕ) → seek (settledCodeAt c) k (headerAt c .settled) 0 ≡ found.Nothing → ratedIn (view c m) k ≡ NotListed
-  rated-none k e =
-      subst (λ x. ratedIn x k ≡ NotListed) seen
-      (when-false _ _ (found-none (b .results .codes) k (sym (outcome-search g (s .holds) k) ∙ e)))
+  rated-none k e = when-false _ _ (found-none (b .results .codes) k (sym (outcome-search g (sound-holds s) k) ∙ e))
 
   pub rated-at : (k i : ℕ) → seek (settledCodeAt c) k (headerAt c .settled) 0 ≡ found.At i
       → (i < 6) × (ratedIn (view c m) k ≡ At (settledOf (outcomeAt c m i)))
   rated-at k i e =
-      let at = found-at (b .results .codes) k i (sym (outcome-search g (s .holds) k) ∙ e) in
-      let few : i < 6 = omega (arith, at .0, g .settled) in
+      let at = found-at (b .results .codes) k i (sym (outcome-search g (sound-holds s) k) ∙ e) in
+      let few : i < 6 = omega (arith, at .0, g .keys .few) in
       let row : outcomeAt c m i ≡ outcomeRow b k =
-      outcome-is (rowsOf b) (sound-shaped s) (s .holds) i few ∙ settled-row g i (at .0) ∙ ap (outcomeRow b) (at .1 .0) in (
+      outcome-is (rowsOf b) (sound-shaped s) (sound-holds s) i few ∙ settled-row g i (at .0) ∙ ap (outcomeRow b) (at .1 .0) in (
         few,
-        subst (λ x. ratedIn x k ≡ At (settledOf (outcomeAt c m i))) seen
-            (when-true _ _ (at .1 .1) ∙ ap (λ (x : Settled). At x) (sym (ap settledOf row ∙ settled-back b k))),
+        when-true _ _ (at .1 .1) ∙ ap (λ (x : Settled). At x) (sym (ap settledOf row ∙ settled-back b k)),
       )
 
   -- ---- an account's bill
   pub billed-none : (n : ℕ) → seek (numberAt c) n (headerAt c .members) 0 ≡ found.Nothing → billedIn (view c m) n ≡ Unknown
-  billed-none n e = subst (λ x. billedIn x n ≡ Unknown) seen (when-false _ _ (member-none g (s .holds) n e))
+  billed-none n e = when-false _ _ (member-none g (sound-holds s) n e)
 
   pub billed-at : (n i : ℕ) → seek (numberAt c) n (headerAt c .members) 0 ≡ found.At i
       → (i < 64) × (billedIn (view c m) n ≡ With (billAt (accountAt c m i)))
   billed-at n i e =
-      let at = member-at g (s .holds) n i e in (
+      let at = member-at g (sound-holds s) n i e in (
         omega (arith, at .0, g .sized .members),
-        subst (λ x. billedIn x n ≡ With (billAt (accountAt c m i))) seen
-            (when-true _ _ (at .1 .1) ∙ ap (λ (a : Account). With (billAt a)) (sym (member-account g (s .holds) n i (at .0) (at .1 .0)))),
+        when-true _ _ (at .1 .1) ∙ ap (λ (a : Account). With (billAt a)) (sym (member-account g (sound-holds s) n i (at .0) (at .1 .0))),
       )
 
   -- ---- the keys
@@ -92,14 +84,12 @@ module _ {c : List ℕ} {m : List ℤ} (s : Sound c m) where
   codes-are =
       ap (λ (h : Header). tab (settledCodeAt c) (h .settled)) (sound-header s)
       ∙ tab-is 0 (settledCodeAt c) (length (b .results .codes)) (b .results .codes) refl (λ i q.
-      settled-code-is (rowsOf b) (sound-shaped s) (s .holds) i (omega (arith, g .settled))
+      settled-code-is (rowsOf b) (sound-shaped s) (sound-holds s) i (omega (arith, g .keys .few))
       ∙ ap (λ (x : Outcome). x .code) (settled-row g i q))
-      ∙ ap (λ (x : Book). x .results .codes) seen
 
   pub members-are : tab (numberAt c) (headerAt c .members) ≡ view c m .accounts .members
   members-are =
       ap (λ (h : Header). tab (numberAt c) (h .members)) (sound-header s)
       ∙ tab-is 0 (numberAt c) (length (b .accounts .members)) (b .accounts .members) refl (λ i q.
-      number-is (rowsOf b) (sound-shaped s) (s .holds) i (omega (arith, g .sized .members))
+      number-is (rowsOf b) (sound-shaped s) (sound-holds s) i (omega (arith, g .sized .members))
       ∙ ap (λ (a : Account). a .number) (member-row g i q))
-      ∙ ap (λ (x : Book). x .accounts .members) seen

@@ -36,13 +36,13 @@ use Rattle.model.specs.Calls.{Call, settle, refresh}
 use Rattle.model.specs.Effects.{paidTo, after}
 use Rattle.model.specs.Refusals.{needs, firstOf, stage, allowed}
 use Rattle.model.specs.Bounds.{allBooked}
-use Rattle.model.specs.History.{run}
+use Rattle.model.specs.Kept.{Kept}
+use Rattle.model.specs.KeptLaws.{kept-bounded}
 use Rattle.standing.specs.Standing.{headerRow, accountRow, rowsOf, view}
 use Rattle.standing.specs.Made.{Sound, decided, Made}
-use Rattle.standing.specs.Good.{Good}
-use Rattle.standing.specs.StandingLaws.{rows-shaped, made, refused-made}
+use Rattle.standing.specs.StandingLaws.{rows-shaped, refused-made}
 use Rattle.standing.specs.SoundLaws.{sound-header, first-passed, first-failed}
-use Rattle.standing.specs.WalkLaws.{view-run, walked, KeepsSix, walked-shaped, walk-member, walk-end}
+use Rattle.standing.specs.WalkLaws.{walked, KeepsSix, walked-shaped, walk-member, walk-end}
 
 -- ---- a call that only its point of the day can refuse
 settle-at : (p : Point) → allowed p settle ≡ eqb (stage p) 2
@@ -54,13 +54,13 @@ settle-at ended = refl
 
 module _ {counts : List ℕ} {money : List ℤ} (s : Sound counts money) where
   abbrev Asks : Call → ℕ → Type 0
-  Asks c point = decided (run (s .history)) c ≡ firstOf (needs (eqb (headerAt counts .point) point) 3 ∷ [])
+  Asks c point = decided (view counts money) c ≡ firstOf (needs (eqb (headerAt counts .point) point) 3 ∷ [])
 
-  point-is : headerAt counts .point ≡ stage (run (s .history) .today .point)
+  point-is : headerAt counts .point ≡ stage (view counts money .today .point)
   point-is = ap (λ (h : Header). h .point) (sound-header s)
 
   pub settle-asks : Asks settle 2
-  settle-asks = rw (settle-at (run (s .history) .today .point), point-is)
+  settle-asks = rw (settle-at (view counts money .today .point), point-is)
 
   pub refresh-asks : Asks refresh 3
   refresh-asks = rw point-is
@@ -75,9 +75,10 @@ module _ {counts : List ℕ} {money : List ℤ} (s : Sound counts money) where
     pub accepted : h .point ≡ point → {counts′ : List ℕ} {money′ : List ℤ}
         → Holds counts′ money′ (rowsOf (after (view counts money) c)) → Made counts money c 0 counts′ money′
     unfolding firstOf
-    accepted e {counts′} {money′} holds =
-        made s c 0 (sym (asks ∙ first-passed 3 [] (eq-eqb (headerAt counts .point) point (sym point-loaded ∙ e))))
-        (subst (λ b. Holds counts′ money′ (rowsOf (after b c))) (view-run s) holds)
+    accepted e holds = record {
+      answers = sym (asks ∙ first-passed 3 [] (eq-eqb (headerAt counts .point) point (sym point-loaded ∙ e)));
+      memory = holds;
+    }
 
 -- ---- accounts settled
 abbrev pub settledRow : Account → Account
@@ -146,24 +147,24 @@ unfolding after
 house-end b = ap (λ l. b .house -ℤ sumOver (paidTo b) l) (take-length (b .accounts .members))
 
 -- ---- what a turn may rest on
-module _ {b : Book} (g : Good b) where
+module _ {b : Book} (g : Kept b) where
   pub house-within : (i : ℕ) → Within (funds.daysMost * allBooked) (houseAfter b i)
-  house-within i = widen (g .bounded .settling i) (omega (arith, g .bounded .days))
+  house-within i = widen (kept-bounded g .settling i) (omega (arith, kept-bounded g .days))
 
   pub good-reference : GoodReference (b .settings .reference)
-  good-reference = record { most = g .bounded .reference }
+  good-reference = record { most = kept-bounded g .reference }
 
   module _ (f : Account → Account) (six : KeepsSix f) {c : List ℕ} {m : List ℤ}
       (i : ℕ) (h : Holds c m (walked (rowsOf b) f i)) (q : i < length (b .accounts .members)) where
     pub turn-funds : funds.Sound funds.daysMost (accountAt c m i .funds)
     turn-funds =
         subst (λ (a : Account). funds.Sound funds.daysMost (a .funds)) (sym (walk-member g f six i h q))
-        (sound-later (g .bounded .funds (getD (b .accounts .members) i 0)) (g .bounded .days))
+        (sound-later (kept-bounded g .funds (getD (b .accounts .members) i 0)) (kept-bounded g .days))
 
     pub turn-limits : Granted (accountAt c m i .holdings .limits)
     turn-limits =
         subst (λ (a : Account). Granted (a .holdings .limits)) (sym (walk-member g f six i h q))
-        (g .bounded .held (getD (b .accounts .members) i 0) .limits)
+        (kept-bounded g .held (getD (b .accounts .members) i 0) .limits)
 
 -- ---- the end
 -- a header once the day is settled
@@ -181,7 +182,7 @@ settledHeader h = record {
   members = h .members;
 }
 
-module _ {b : Book} (g : Good b) {c : List ℕ} {m : List ℤ} (i : ℕ) (all : i ≡ length (b .accounts .members)) where
+module _ {b : Book} (g : Kept b) {c : List ℕ} {m : List ℤ} (i : ℕ) (all : i ≡ length (b .accounts .members)) where
   walked-all : (f : Account → Account) → Holds c m (walked (rowsOf b) f i) → Holds c m (walked (rowsOf b) f (length (b .accounts .members)))
   walked-all f = subst (λ k. Holds c m (walked (rowsOf b) f k)) all
 

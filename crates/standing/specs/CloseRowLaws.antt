@@ -14,7 +14,7 @@ use Rattle.lists.specs.Padded.{padded}
 use Rattle.lists.specs.PaddedLaws.{padded-full, take-padded}
 use Rattle.lists.specs.Rows.{firstRows, drop-map, getD-map-below}
 use Rattle.lists.specs.Zipped.{zipped, zipped-map}
-use Rattle.days.specs.Days.{isWorking, isOn, accepted}
+use Rattle.days.specs.Days.{isWorking, isOn}
 use Rattle.months.specs.Months.{lastTradingOf}
 use Rattle.tallies.specs.Tally.{sideIn}
 use Rattle.tallies.specs.declared.Tally.{Tally}
@@ -31,12 +31,13 @@ use Rattle.accounts.specs.Accounts.{closed}
 use Rattle.memory.specs.declared.contract_rows.Contract.{Contract}
 use Rattle.memory.specs.declared.outcome_rows.Outcome.{Outcome}
 use Rattle.memory.specs.Rows.{blankContract, blankOutcome, blankAccount}
-use Rattle.model.specs.Book.{Book, Terms, noTerms, noTally, isMember, working, positionsOf, besides}
+use Rattle.model.specs.Book.{Book, Terms, noTerms, noTally, isMember, positionsOf, besides}
 use Rattle.model.specs.Effects.{isEnding, markOf, dayEndOf, closedAt, codesLeft, closedDay}
 use Rattle.model.specs.Refusals.{isOpen}
 use Rattle.model.specs.EndLaws.{hasEnding, codes-left}
+use Rattle.model.specs.Kept.{Kept}
+use Rattle.model.specs.KeptLaws.{kept-six}
 use Rattle.standing.specs.Standing.{contractRow, outcomeRow, accountRow, rowsOf}
-use Rattle.standing.specs.Good.{Good}
 use Rattle.standing.specs.MemberLaws.{open-row}
 use Rattle.standing.specs.WalkLaws.{walk-end}
 use Rattle.standing.specs.CloseRows.{endsIn, outcomeFrom, outcomeIn, priced, hasEnded, markFrom, dayEndIn, firstEnded}
@@ -55,7 +56,7 @@ five-ends t previous ending final =
     go false false false true = refl
     go false false false false = refl
 
-module _ (b : Book) (g : Good b) (accept : accepted (working b) ≡ true) (o : isOpen (b .today .point) ≡ true) (final : ℤ) where
+module _ (b : Book) (g : Kept b) (o : isOpen (b .today .point) ≡ true) (final : ℤ) where
   abbrev codes : List ℕ
   codes = b .contracts .codes
 
@@ -63,11 +64,11 @@ module _ (b : Book) (g : Good b) (accept : accepted (working b) ≡ true) (o : i
   ended = hasEnding b
 
   six-of : {A : Type 0} (f : ℕ → A) → length (map f codes) ≡ 6
-  six-of f = length-map codes f ∙ g .six o
+  six-of f = length-map codes f ∙ kept-six g o
 
   -- what a close leaves of a row for each code
   moved-up : {A : Type 0} (f : ℕ → A) (blank : A) → movedUp ended blank (map f codes) ≡ padded 6 blank (map f (codesLeft b))
-  moved-up f blank = ap (padded 6 blank) (drop-map f (cond ended 1 0) codes ∙ ap (map f) (sym (codes-left b (g .listed) accept o)))
+  moved-up f blank = ap (padded 6 blank) (drop-map f (cond ended 1 0) codes ∙ ap (map f) (sym (codes-left b (g .listed) (g .calendar .accepts) o)))
 
   -- ---- rates
   contracts-are : rowsOf b .contracts ≡ map (contractRow b) codes
@@ -114,7 +115,7 @@ module _ (b : Book) (g : Good b) (accept : accepted (working b) ≡ true) (o : i
   first-is : firstEnded (priced final (rowsOf b)) ≡ ended
   first-is =
       ap (λ os. hasEnded (getD os 0 blankOutcome)) outcomes-are
-      ∙ ap hasEnded (getD-map-below outcomeOf codes 0 0 blankOutcome (omega (arith, g .six o)))
+      ∙ ap hasEnded (getD-map-below outcomeOf codes 0 0 blankOutcome (omega (arith, kept-six g o)))
       ∙ five (getD codes 0 0)
 
   positions-left : (n : ℕ)
@@ -157,9 +158,9 @@ module _ (b : Book) (g : Good b) (accept : accepted (working b) ≡ true) (o : i
   -- ---- the header
   listed-left : cond ended 5 6 ≡ length (codesLeft b)
   listed-left =
-      sym (ap length (codes-left b (g .listed) accept o)
+      sym (ap length (codes-left b (g .listed) (g .calendar .accepts) o)
       ∙ length-drop (cond ended 1 0) codes
-      ∙ ap (λ n. n - cond ended 1 0) (g .six o)
+      ∙ ap (λ n. n - cond ended 1 0) (kept-six g o)
       ∙ go ended)
     where
       go : (t : Bool) → 6 - cond t 1 0 ≡ cond t 5 6
@@ -168,4 +169,4 @@ module _ (b : Book) (g : Good b) (accept : accepted (working b) ≡ true) (o : i
 
   -- ---- all of it
   pub close-rows : closedRows final (rowsOf b) ≡ rowsOf (closedDay b final)
-  close-rows = rw (accounts-left, contracts-left, first-is, listed-left, outcomes-are, outcomes-left, g .six o)
+  close-rows = rw (accounts-left, contracts-left, first-is, listed-left, outcomes-are, outcomes-left, kept-six g o)

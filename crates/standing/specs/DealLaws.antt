@@ -37,8 +37,9 @@ use Rattle.model.specs.Effects.{lotsFor, traded, quoted}
 use Rattle.model.specs.Refusals.{isOpen, sideTotals}
 use Rattle.model.specs.FrameLaws.{bystander-still}
 use Rattle.model.specs.HeldLaws.{holdings-sound, margins-good}
+use Rattle.model.specs.Kept.{Kept}
+use Rattle.model.specs.KeptLaws.{kept-once, kept-six}
 use Rattle.standing.specs.Standing.{headerRow, contractRow, accountRow, rowsOf}
-use Rattle.standing.specs.Good.{Good}
 use Rattle.standing.specs.StandingLaws.{rows-shaped}
 use Rattle.standing.specs.MemberLaws.{listed-row}
 
@@ -58,18 +59,18 @@ row-six b six n =
     (padded-full 6 flat (positionsOf b n) (length-map (b .contracts .codes) (b .accounts .position n) ∙ six))
 
 -- and as large as the callees ask
-module _ {b : Book} (g : Good b) (live : isOpen (b .today .point) ≡ true) where
+module _ {b : Book} (g : Kept b) (live : isOpen (b .today .point) ≡ true) where
   pub held-sound : (n : ℕ) → holdings.Sound 10000 (accountRow b n .holdings)
-  held-sound n = rw (row-six b (g .six live) n) (sound-wider (holdings-sound (g .sized) (g .six live) n) (g .sized .today .trades))
+  held-sound n = rw (row-six b (kept-six g live) n) (sound-wider (holdings-sound (g .sized) (kept-six g live) n) (g .sized .today .trades))
 
   pub margins-sound : Margins (marginsOf b)
-  margins-sound = margins-good (g .sized) (g .six live)
+  margins-sound = margins-good (g .sized) (kept-six g live)
 
   pub margins-are : {c : List ℕ} {m : List ℤ} → Holds c m (rowsOf b)
       → marginAt c 0 ∷ marginAt c 1 ∷ marginAt c 2 ∷ marginAt c 3 ∷ marginAt c 4 ∷ marginAt c 5 ∷ [] ≡ marginsOf b
   unfolding tab
   margins-are {c} h = tab-is 0 (marginAt c) 6 (marginsOf b) (margins-sound .six) λ i q.
-      let low : i < length (b .contracts .codes) = rw (g .six live) q in
+      let low : i < length (b .contracts .codes) = rw (kept-six g live) q in
       margin-is (rowsOf b) (rows-shaped g) h i q
       ∙ ap (λ (x : Contract). x .margin) (listed-row g i low)
       ∙ sym (getD-map-below (λ c. b .contracts .terms c .margin) (b .contracts .codes) i 0 0 low)
@@ -82,7 +83,7 @@ pub record Between (b : Book) (t : Trade) (k i j : ℕ) : Type 0 where
   pub seller : Stands (b .accounts .members) (t .seller) j
   pub apart : eqb (t .buyer) (t .seller) ≡ false
 
-module _ {b : Book} {t : Trade} {k i j : ℕ} (g : Good b) (w : Between b t k i j) where
+module _ {b : Book} {t : Trade} {k i j : ℕ} (g : Kept b) (w : Between b t k i j) where
   pub buyer-lots : lotsFor t (t .buyer) ≡ pos (t .lots)
   buyer-lots = when-true _ _ (eq-eqb (t .buyer) (t .buyer) refl)
 
@@ -98,7 +99,7 @@ module _ {b : Book} {t : Trade} {k i j : ℕ} (g : Good b) (w : Between b t k i 
       let row = w .contract in
       sym (ap (λ p. set (padded 6 flat (positionsOf b n)) k (dealt p (lotsFor t n) (t .rate)))
       (table-at 6 flat was (b .contracts .codes) k (row .below) ∙ ap was (row .here))
-      ∙ table-set 6 flat was (b .contracts .codes) (traded b t .accounts .position n) (t .code) k _ (g .once) (row .below) (row .here)
+      ∙ table-set 6 flat was (b .contracts .codes) (traded b t .accounts .position n) (t .code) k _ (kept-once g) (row .below) (row .here)
       (when-true _ _ (eq-eqb (t .code) (t .code) refl))
       (λ c e. when-false _ _ e))
 
@@ -117,7 +118,7 @@ module _ {b : Book} {t : Trade} {k i j : ℕ} (g : Good b) (w : Between b t k i 
   unfolding sideOf
   side-is n =
       let now = traded b t .accounts .position n in
-      ap₂ (sideOf (marginsOf b) k) (row-six b (g .six (w .live)) n) (row-six (traded b t) (g .six (w .live)) n)
+      ap₂ (sideOf (marginsOf b) k) (row-six b (kept-six g (w .live)) n) (row-six (traded b t) (kept-six g (w .live)) n)
       ∙ ap (λ p. cond (isBeyond p) Beyond (byTotals (sideTotals b t n)))
       (getD-map-below now (b .contracts .codes) k 0 flat (w .contract .below) ∙ ap now (w .contract .here))
 
@@ -149,7 +150,7 @@ module _ {b : Book} {t : Trade} {k i j : ℕ} (g : Good b) (w : Between b t k i 
 
   contracts-after : set (rowsOf b .contracts) k (contractRow (traded b t) (t .code)) ≡ rowsOf (traded b t) .contracts
   contracts-after =
-      table-set 6 blankContract (contractRow b) (b .contracts .codes) (contractRow (traded b t)) (t .code) k _ (g .once)
+      table-set 6 blankContract (contractRow b) (b .contracts .codes) (contractRow (traded b t)) (t .code) k _ (kept-once g)
       (w .contract .below) (w .contract .here) refl
       (λ c e. ap (withTally (contractRow b c)) (when-false _ _ e))
 
@@ -164,7 +165,7 @@ module _ {b : Book} {t : Trade} {k i j : ℕ} (g : Good b) (w : Between b t k i 
   traded-rows = ap₂ (λ xs ys. withContracts (withAccounts (rowsOf (traded b t)) xs) ys) accounts-after contracts-after
 
 -- ---- a quote in a listed contract
-module _ {b : Book} (q : Quote) {k : ℕ} (g : Good b) (s : Stands (b .contracts .codes) (q .code) k) where
+module _ {b : Book} (q : Quote) {k : ℕ} (g : Kept b) (s : Stands (b .contracts .codes) (q .code) k) where
   pub quoted-contract : contractRow (quoted b q) (q .code)
       ≡ withTally (contractRow b (q .code)) (tallies.withQuote (b .contracts .tally (q .code)) (q .time) (q .side) (weighted 1 (q .rate)))
   quoted-contract = ap (withTally (contractRow b (q .code))) (when-true _ _ (eq-eqb (q .code) (q .code) refl))
@@ -174,6 +175,6 @@ module _ {b : Book} (q : Quote) {k : ℕ} (g : Good b) (s : Stands (b .contracts
       ≡ rowsOf (quoted b q)
   quoted-rows =
       ap (withContracts (rowsOf (quoted b q)))
-      (table-set 6 blankContract (contractRow b) (b .contracts .codes) (contractRow (quoted b q)) (q .code) k _ (g .once)
+      (table-set 6 blankContract (contractRow b) (b .contracts .codes) (contractRow (quoted b q)) (q .code) k _ (kept-once g)
       (s .below) (s .here) refl
       (λ c e. ap (withTally (contractRow b c)) (when-false _ _ e)))

@@ -1,6 +1,5 @@
 pub mod Standing
 pub mod Made
-pub mod Good
 pub mod StandingLaws
 pub mod MemberLaws
 pub mod StartLaws

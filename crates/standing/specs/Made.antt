@@ -1,21 +1,20 @@
--- A memory that calls have made, and what a call makes of it.
+-- What is known of a memory, and what a call makes of it.
 use mathlib.Core.Path.{_≡_}
 use mathlib.Core.List.{List}
 use Prim.Native.Nat.{ℕ}
 use lib.IntN.{ℤ}
-use Rattle.records.specs.Records.{Entry}
 use Rattle.memory.specs.Memory.{Holds}
 use Rattle.model.specs.Book.{Book}
 use Rattle.model.specs.Calls.{Call}
 use Rattle.model.specs.Refusals.{firstOf, tests}
 use Rattle.model.specs.Answers.{kept}
-use Rattle.model.specs.History.{run}
+use Rattle.model.specs.Kept.{Kept}
 use Rattle.standing.specs.Standing.{rowsOf, view}
 
--- the memory is that of a book reached by calls from a new one
+-- the book that the memory stands for is a kept one, and the memory is just that of this book: what made it is not asked. Both stand behind a
+-- function, so that a proof that only hands the memory on is not shown all that is known of it
 pub record Sound (counts : List ℕ) (money : List ℤ) : Type 0 where
-  pub history : List Entry
-  pub holds : Holds counts money (rowsOf (run history))
+  pub told : Unit {0} → Kept (view counts money) × Holds counts money (rowsOf (view counts money))
 
 -- the refusal of a call whose record is in range, 0 where it is accepted
 abbrev pub decided : Book → Call → ℕ

@@ -32,8 +32,9 @@ use Rattle.memory.specs.MemoryLaws.{header-is, account-is, number-is, code-is, 
 use Rattle.model.specs.Book.{Book, Held, isMember, holding, besides, positionsOf, accountOf, replaced}
 use Rattle.model.specs.Effects.{withHeld, enrolled, paid}
 use Rattle.model.specs.Refusals.{isOpen}
+use Rattle.model.specs.Kept.{Kept}
+use Rattle.model.specs.KeptLaws.{kept-few, kept-six}
 use Rattle.standing.specs.Standing.{headerRow, contractRow, outcomeRow, accountRow, rowsOf}
-use Rattle.standing.specs.Good.{Good}
 use Rattle.standing.specs.StandingLaws.{rows-shaped}
 
 -- an account's row with other money, or with something else held besides its positions
@@ -55,7 +56,7 @@ oneMore h = record {
   members = h .members + 1;
 }
 
-module _ {b : Book} (g : Good b) where
+module _ {b : Book} (g : Kept b) where
   -- ---- a row in use
   pub member-row : (i : ℕ) → i < length (b .accounts .members)
       → getD (rowsOf b .accounts) i blankAccount ≡ accountRow b (getD (b .accounts .members) i 0)
@@ -73,7 +74,7 @@ module _ {b : Book} (g : Good b) where
   pub open-row : isOpen (b .today .point) ≡ true → (n : ℕ) → accountRow b n ≡ accountOf b n
   open-row o n =
       ap (λ (ps : List Position). record { number = n; holdings = holding (b .accounts .held n) ps; funds = b .accounts .funds n })
-      (padded-full 6 flat (positionsOf b n) (length-map (b .contracts .codes) (b .accounts .position n) ∙ g .six o))
+      (padded-full 6 flat (positionsOf b n) (length-map (b .contracts .codes) (b .accounts .position n) ∙ kept-six g o))
 
   module _ {c : List ℕ} {m : List ℤ} (h : Holds c m (rowsOf b)) where
     header : headerAt c ≡ headerRow b
@@ -93,7 +94,7 @@ module _ {b : Book} (g : Good b) where
     code-search k =
         ap (λ (x : Header). seek (codeAt c) k (x .listed) 0) header
         ∙ seek-same (codeAt c) (λ i. getD (b .contracts .codes) i 0) k (length (b .contracts .codes)) 0 (λ i q.
-        code-is (rowsOf b) (rows-shaped g) h i (omega (arith, g .few))
+        code-is (rowsOf b) (rows-shaped g) h i (omega (arith, kept-few g))
         ∙ ap (λ (x : Contract). x .code) (listed-row i (omega arith)))
 
     pub outcome-search : (k : ℕ)
@@ -101,7 +102,7 @@ module _ {b : Book} (g : Good b) where
     outcome-search k =
         ap (λ (x : Header). seek (settledCodeAt c) k (x .settled) 0) header
         ∙ seek-same (settledCodeAt c) (λ i. getD (b .results .codes) i 0) k (length (b .results .codes)) 0 (λ i q.
-        settled-code-is (rowsOf b) (rows-shaped g) h i (omega (arith, g .settled))
+        settled-code-is (rowsOf b) (rows-shaped g) h i (omega (arith, g .keys .few))
         ∙ ap (λ (x : Outcome). x .code) (settled-row i (omega arith)))
 
     -- ---- a member found, or not
@@ -148,7 +149,7 @@ module _ {b : Book} (g : Good b) where
         ap (λ x. rowWith b n x (b .accounts .funds n)) (when-true newHeld (b .accounts .held n) (eq-eqb n n refl))
         ∙ ap (rowWith b n newHeld) (g .framed .strangers n fresh .1)
         ∙ ap (λ (ps : List Position). record { number = n; holdings = holding newHeld ps; funds = newFunds })
-        (table-alike 6 flat (b .accounts .position n) (b .contracts .codes) (g .few) (λ k. g .framed .strange-positions n k fresh))
+        (table-alike 6 flat (b .accounts .position n) (b .contracts .codes) (kept-few g) (λ k. g .framed .strange-positions n k fresh))
 
     pub enrolled-rows : length (b .accounts .members) < 64
         → withAccounts (withHeaderRow (rowsOf b) (oneMore (headerRow b)))

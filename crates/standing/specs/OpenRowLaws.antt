@@ -29,8 +29,9 @@ use Rattle.memory.specs.Rows.{blankContract, blankAccount}
 use Rattle.model.specs.Book.{Book, Terms, noTerms, isListed, working, holding, positionsOf}
 use Rattle.model.specs.Calls.{Opening}
 use Rattle.model.specs.Effects.{termsAfter, codesOn, opened}
+use Rattle.model.specs.Kept.{Kept}
+use Rattle.model.specs.KeptLaws.{kept-few}
 use Rattle.standing.specs.Standing.{contractRow, accountRow, rowsOf}
-use Rattle.standing.specs.Good.{Good}
 use Rattle.standing.specs.MemberLaws.{listed-row}
 use Rattle.standing.specs.WalkLaws.{walk-end}
 use Rattle.standing.specs.OpenRows.{placeFound, placesIn, contractWith, relistedRow, rowsBy, relisted, openedRows}
@@ -74,7 +75,7 @@ module _ (old : List ℕ) (c : ℕ) (few : length old ≤ 6) where
       go (At i) e = let q = found-at old c i e in lt-ltb i 6 (omega (arith, q .0)) ∙ sym (q .1 .1)
       go Nothing e = sym (found-none old c e)
 
-module _ {b : Book} (g : Good b) (o : Opening) (known : listing (working b) (o .day) .known ≡ true) where
+module _ {b : Book} (g : Kept b) (o : Opening) (known : listing (working b) (o .day) .known ≡ true) where
   abbrev old : List ℕ
   old = b .contracts .codes
 
@@ -116,10 +117,10 @@ module _ {b : Book} (g : Good b) (o : Opening) (known : listing (working b) (o .
       let kept = contractWith c (x .previous) (x .margin) in
       let new = contractWith c (getD (o .rates) j (pos 0)) (getD (o .margins) j 0) in
       let listed : Terms → Contract = λ t. contractWith c (t .previous) (t .margin) in
-      ap (λ t. cond t kept new) (placed old c (g .few))
+      ap (λ t. cond t kept new) (placed old c (kept-few g))
       ∙ byTest (isListed b c)
       (λ e. when-true kept new e
-      ∙ ap (λ (x : Contract). contractWith c (x .previous) (x .margin)) (beside old c (g .few) (contractRow b) blankContract (clash e))
+      ∙ ap (λ (x : Contract). contractWith c (x .previous) (x .margin)) (beside old c (kept-few g) (contractRow b) blankContract (clash e))
       ∙ sym (ap listed (terms-at j q ∙ when-true _ _ e)))
       (λ e. when-false kept new e ∙ sym (ap listed (terms-at j q ∙ when-false _ _ e)))
 
@@ -144,7 +145,7 @@ module _ {b : Book} (g : Good b) (o : Opening) (known : listing (working b) (o .
       let p : j < length codes = rw six q in
       let c = getD codes j 0 in
       ap (λ k. getD (padded 6 flat (positionsOf b n)) k flat) (place j q)
-      ∙ beside old c (g .few) position flat (g .framed .unlisted n c)
+      ∙ beside old c (kept-few g) position flat (g .framed .unlisted n c)
       ∙ sym (table-at 6 flat after codes j p ∙ when-true (position c) flat (has-at codes j p)))
 
   accounts-are : firstRows (relisted places) (length (b .accounts .members)) (rowsOf b .accounts) ≡ rowsOf (opened b o) .accounts

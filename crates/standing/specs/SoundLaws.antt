@@ -9,15 +9,14 @@ use Rattle.lists.specs.Parts.{part}
 use Rattle.lists.specs.PaddedLaws.{take-padded}
 use Rattle.days.specs.Days.{rising}
 use Rattle.memory.specs.declared.header_row.Header.{Header}
-use Rattle.memory.specs.Layout.{Long, headerAt, withHeader}
+use Rattle.memory.specs.Layout.{Long, headerAt, withHeader, houseAt}
 use Rattle.memory.specs.Memory.{Rows, Shaped, withHeaderRow}
-use Rattle.memory.specs.MemoryLaws.{header-is, exceptions-part, memory-long, put-header, header-shaped}
+use Rattle.memory.specs.MemoryLaws.{header-is, house-is, exceptions-part, memory-long, put-header, header-shaped}
 use Rattle.model.specs.Refusals.{needs, firstOf}
-use Rattle.model.specs.History.{run}
-use Rattle.standing.specs.Standing.{headerRow, rowsOf}
+use Rattle.model.specs.KeptLaws.{kept-few}
+use Rattle.standing.specs.Standing.{headerRow, rowsOf, view}
 use Rattle.standing.specs.Made.{Sound}
-use Rattle.standing.specs.Good.{good}
-use Rattle.standing.specs.StandingLaws.{rows-shaped}
+use Rattle.standing.specs.StandingLaws.{rows-shaped, sound-kept, sound-holds}
 use Rattle.standing.specs.Turns.{Whole}
 use Rattle.standing.specs.CloseRows.{exceptionsIn}
 
@@ -33,42 +32,45 @@ exceptions-read r w {h} e few =
 
 -- ---- a sound memory
 module _ {c : List ℕ} {m : List ℤ} (s : Sound c m) where
-  pub sound-shaped : Shaped (rowsOf (run (s .history)))
-  sound-shaped = rows-shaped (good (s .history))
+  pub sound-shaped : Shaped (rowsOf (view c m))
+  sound-shaped = rows-shaped (sound-kept s)
 
-  pub sound-whole : Whole c m (rowsOf (run (s .history)))
-  sound-whole = record { shaped = sound-shaped; holds = s .holds }
+  pub sound-whole : Whole c m (rowsOf (view c m))
+  sound-whole = record { shaped = sound-shaped; holds = sound-holds s }
 
   pub sound-long : Long c m
-  sound-long = memory-long (rowsOf (run (s .history))) sound-shaped (s .holds)
+  sound-long = memory-long (rowsOf (view c m)) sound-shaped (sound-holds s)
 
   -- also with another header put in it
   pub headed-long : (h : Header) → Long (withHeader c h) m
   headed-long h =
-      let r = rowsOf (run (s .history)) in
-      memory-long (withHeaderRow r h) (header-shaped r sound-shaped h) (put-header r sound-shaped (s .holds) h)
+      let r = rowsOf (view c m) in
+      memory-long (withHeaderRow r h) (header-shaped r sound-shaped h) (put-header r sound-shaped (sound-holds s) h)
 
-  pub sound-header : headerAt c ≡ headerRow (run (s .history))
-  sound-header = header-is (rowsOf (run (s .history))) sound-shaped (s .holds)
+  pub sound-header : headerAt c ≡ headerRow (view c m)
+  sound-header = header-is (rowsOf (view c m)) sound-shaped (sound-holds s)
+
+  pub sound-house : houseAt m ≡ view c m .house
+  sound-house = house-is (rowsOf (view c m)) sound-shaped (sound-holds s)
 
   -- as many rows in use as there is room for
   pub sound-members : headerAt c .members ≤ 64
-  sound-members = subst (λ (h : Header). h .members ≤ 64) (sym sound-header) (good (s .history) .sized .members)
+  sound-members = subst (λ (h : Header). h .members ≤ 64) (sym sound-header) (sound-kept s .sized .members)
 
   pub sound-listed : headerAt c .listed ≤ 6
-  sound-listed = subst (λ (h : Header). h .listed ≤ 6) (sym sound-header) (good (s .history) .few)
+  sound-listed = subst (λ (h : Header). h .listed ≤ 6) (sym sound-header) (kept-few (sound-kept s))
 
   pub sound-exceptions : headerAt c .exceptions ≤ 400
-  sound-exceptions = subst (λ (h : Header). h .exceptions ≤ 400) (sym sound-header) (good (s .history) .room)
+  sound-exceptions = subst (λ (h : Header). h .exceptions ≤ 400) (sym sound-header) (sound-kept s .sized .settings .few)
 
   -- the exceptions in use are the book's
-  pub exceptions-are : exceptionsOf c ≡ run (s .history) .settings .exceptions
+  pub exceptions-are : exceptionsOf c ≡ view c m .settings .exceptions
   exceptions-are =
-      exceptions-read (rowsOf (run (s .history))) sound-whole refl sound-exceptions
-      ∙ take-padded 400 0 (run (s .history) .settings .exceptions)
+      exceptions-read (rowsOf (view c m)) sound-whole refl sound-exceptions
+      ∙ take-padded 400 0 (view c m .settings .exceptions)
 
   pub exceptions-rise : rising (exceptionsOf c) ≡ true
-  exceptions-rise = ap rising exceptions-are ∙ good (s .history) .rising
+  exceptions-rise = ap rising exceptions-are ∙ sound-kept s .sized .settings .rises
 
 -- ---- a test that is passed, one that is not, and none left
 pub first-passed : {t : Bool} (number : ℕ) (rest : List ℕ) → t ≡ true → firstOf (needs t number ∷ rest) ≡ firstOf rest

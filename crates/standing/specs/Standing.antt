@@ -140,5 +140,5 @@ module _ (r : Rows) where
   }
 
 -- ---- the book of a memory
-abbrev pub view : List ℕ → List ℤ → Book
+unfoldable pub view : List ℕ → List ℤ → Book
 view counts money = bookOf (rowsIn counts money)

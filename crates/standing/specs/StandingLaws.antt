@@ -1,4 +1,4 @@
--- A book that calls have made and its memory say the same.
+-- A book and its memory say the same.
 use mathlib.Core.Path.{_≡_, refl, sym, ap, _∙_, subst, fun-ext}
 use mathlib.Core.Bool.{false}
 use mathlib.Core.List.{List, [], map, map-map, map-id}
@@ -24,12 +24,10 @@ use Rattle.memory.specs.MemoryLaws.{rows-are}
 use Rattle.model.specs.Book.{Book, Point, unstarted, unopened, unsettled, settledToday, ended, noTerms, noTally, noSettled, noHeld, new, besides, positionsOf}
 use Rattle.model.specs.Calls.{Call}
 use Rattle.model.specs.Refusals.{stage}
-use Rattle.model.specs.Answers.{kept}
-use Rattle.model.specs.History.{run}
-use Rattle.model.specs.FrameLaws.{Framed}
+use Rattle.model.specs.Kept.{Framed, Kept}
+use Rattle.model.specs.KeptLaws.{kept-few}
 use Rattle.standing.specs.Standing.{contractRow, outcomeRow, accountRow, rowsOf, pointOf, ruleOf, termsOf, settledOf, bookOf, view}
 use Rattle.standing.specs.Made.{Sound, decided, Made}
-use Rattle.standing.specs.Good.{Good, good}
 
 -- ---- a row for each key, and room for n
 module _ {X : Type 0} (n : ℕ) (d : X) (row : ℕ → X) (keys : List ℕ) where
@@ -54,17 +52,17 @@ keys-back : {X : Type 0} (row : ℕ → X) (key : X → ℕ) (keys : List ℕ) �
 keys-back row key keys e = parts-back row key (λ k. k) keys e ∙ map-id keys
 
 -- ---- the rows of a book have the memory's form
-pub rows-shaped : {b : Book} → Good b → Shaped (rowsOf b)
+pub rows-shaped : {b : Book} → Kept b → Shaped (rowsOf b)
 rows-shaped {b} g = record {
-  exceptions = padded-length 400 0 (b .settings .exceptions) (g .room);
-  contracts = rows-long 6 blankContract (contractRow b) (b .contracts .codes) (g .few);
-  outcomes = rows-long 6 blankOutcome (outcomeRow b) (b .results .codes) (g .settled);
+  exceptions = padded-length 400 0 (b .settings .exceptions) (g .sized .settings .few);
+  contracts = rows-long 6 blankContract (contractRow b) (b .contracts .codes) (kept-few g);
+  outcomes = rows-long 6 blankOutcome (outcomeRow b) (b .results .codes) (g .keys .few);
   accounts = rows-long 64 blankAccount (accountRow b) (b .accounts .members) (g .sized .members);
   tallies = rows-keep 6 blankContract (contractRow b) (b .contracts .codes) (λ x. WholeTally (x .tally))
       (record { five = refl; sides = refl })
       (λ c. let s = g .sized .contracts .tallies c in record { five = s .five; sides = s .sides });
   positions = rows-keep 64 blankAccount (accountRow b) (b .accounts .members) (λ a. length (a .holdings .positions) ≡ 6) refl
-      (λ n. rows-long 6 flat (b .accounts .position n) (b .contracts .codes) (g .few));
+      (λ n. rows-long 6 flat (b .accounts .position n) (b .contracts .codes) (kept-few g));
 }
 
 -- ---- and say what the book says
@@ -95,7 +93,7 @@ positions-back {b} f =
     (λ n. look-padded (b .accounts .position n) flat (b .contracts .codes) _
     ∙ look-same (b .accounts .position n) flat (b .contracts .codes) (f .unlisted n)))
 
-pub book-of-rows : {b : Book} → Good b → bookOf (rowsOf b) ≡ b
+pub book-of-rows : {b : Book} → Kept b → bookOf (rowsOf b) ≡ b
 book-of-rows {b} g = rw (
   take-padded 400 0 (b .settings .exceptions),
   point-back (b .today .point),
@@ -118,7 +116,8 @@ book-of-rows {b} g = rw (
   positions-back (g .framed),
 )
 
-pub view-is : {c : List ℕ} {m : List ℤ} {b : Book} → Good b → Holds c m (rowsOf b) → view c m ≡ b
+pub view-is : {c : List ℕ} {m : List ℤ} {b : Book} → Kept b → Holds c m (rowsOf b) → view c m ≡ b
+unfolding view
 view-is {c} {m} {b} g h = ap bookOf (rows-are (rowsOf b) (rows-shaped g) h) ∙ book-of-rows g
 
 -- ---- a new book's memory is all zeros
@@ -126,16 +125,19 @@ pub new-rows : (countsOf (rowsOf new) ≡ replicate countsLong 0) × (moneyOf (r
 unfolding new block
 new-rows = (refl, refl)
 
--- ---- what a call makes of a memory, told of the book that the memory is of
-module _ {counts : List ℕ} {money : List ℤ} (s : Sound counts money) (c : Call) where
-  pub made : {counts′ : List ℕ} {money′ : List ℤ} (number : ℕ) → number ≡ decided (run (s .history)) c
-      → Holds counts′ money′ (rowsOf (kept number (run (s .history)) c)) → Made counts money c number counts′ money′
-  made {counts′} {money′} number e h =
-      let same = sym (view-is (good (s .history)) (s .holds)) in record {
-        answers = subst (λ b. number ≡ decided b c) same e;
-        memory = subst (λ b. Holds counts′ money′ (rowsOf (kept number b c))) same h;
-      }
+-- ---- a sound memory
+-- that of a kept book
+pub sound-of : {c : List ℕ} {m : List ℤ} {b : Book} → Kept b → Holds c m (rowsOf b) → Sound c m
+sound-of {c} {m} k h =
+    let same = sym (view-is k h) in record { told = λ _. (subst Kept same k, subst (λ b. Holds c m (rowsOf b)) same h) }
 
-  -- a refusal leaves the memory as it was
-  pub refused-made : (k : ℕ) → decided (run (s .history)) c ≡ suc k → Made counts money c (suc k) counts money
-  refused-made k e = made (suc k) (sym e) (s .holds)
+module _ {c : List ℕ} {m : List ℤ} (s : Sound c m) where
+  pub sound-kept : Kept (view c m)
+  sound-kept = s .told tt .0
+
+  pub sound-holds : Holds c m (rowsOf (view c m))
+  sound-holds = s .told tt .1
+
+  -- a refusal leaves it as it was
+  pub refused-made : (call : Call) (k : ℕ) → decided (view c m) call ≡ suc k → Made c m call (suc k) c m
+  refused-made call k e = record { answers = sym e; memory = sound-holds }

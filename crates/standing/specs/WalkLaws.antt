@@ -1,5 +1,5 @@
 -- A walk that changes the accounts' rows one after the other: the memory after some turns.
-use mathlib.Core.Path.{_≡_, sym, ap, _∙_, subst}
+use mathlib.Core.Path.{_≡_, sym, ap, _∙_}
 use mathlib.Core.List.{List, map, map-map}
 use Prim.Native.Nat.{ℕ, _+_, _<_}
 use native.Mathlib.Omega.{arith}
@@ -9,31 +9,15 @@ use Rattle.lists.specs.Padded.{padded}
 use Rattle.lists.specs.Rows.{firstRows, firstRows-at, firstRows-step, firstRows-length, firstRows-padded, firstRows-keeps}
 use Rattle.accounts.specs.declared.Account.{Account}
 use Rattle.memory.specs.Rows.{blankAccount}
-use Rattle.memory.specs.Layout.{Long, headerAt, accountAt, withAccountCounts, withAccountMoney}
+use Rattle.memory.specs.Layout.{Long, accountAt, withAccountCounts, withAccountMoney}
 use Rattle.memory.specs.Memory.{Rows, Holds, Shaped, withAccounts}
-use Rattle.memory.specs.MemoryLaws.{memory-long, header-is, account-is, put-account}
+use Rattle.memory.specs.MemoryLaws.{memory-long, account-is, put-account}
 use Rattle.model.specs.Book.{Book}
-use Rattle.model.specs.History.{run}
-use Rattle.standing.specs.Standing.{headerRow, accountRow, rowsOf, view}
-use Rattle.standing.specs.Made.{Sound}
-use Rattle.standing.specs.Good.{Good, good}
-use Rattle.standing.specs.StandingLaws.{rows-shaped, view-is}
+use Rattle.model.specs.Kept.{Kept}
+use Rattle.standing.specs.Standing.{accountRow, rowsOf}
+use Rattle.standing.specs.StandingLaws.{rows-shaped}
 use Rattle.standing.specs.MemberLaws.{member-row}
 use Rattle.standing.specs.Turns.{Turns}
-
--- ---- the book that a memory stands for, which a walk's contract speaks of
-module _ {counts : List ℕ} {money : List ℤ} (s : Sound counts money) where
-  pub view-run : view counts money ≡ run (s .history)
-  view-run = view-is (good (s .history)) (s .holds)
-
-  pub view-good : Good (view counts money)
-  view-good = subst Good (sym view-run) (good (s .history))
-
-  pub view-holds : Holds counts money (rowsOf (view counts money))
-  view-holds = subst (λ b. Holds counts money (rowsOf b)) (sym view-run) (s .holds)
-
-  pub view-header : headerAt counts ≡ headerRow (view counts money)
-  view-header = header-is (rowsOf (view counts money)) (rows-shaped view-good) view-holds
 
 -- ---- the rows, the first i accounts changed
 abbrev pub walked : Rows → (Account → Account) → ℕ → Rows
@@ -89,7 +73,7 @@ module _ (c₀ : List ℕ) (m₀ : List ℤ) (f : Account → Account) where
   }
 
 -- ---- the members of a book
-module _ {b : Book} (g : Good b) (f : Account → Account) where
+module _ {b : Book} (g : Kept b) (f : Account → Account) where
   pub walk-member : KeepsSix f → {c : List ℕ} {m : List ℤ} (i : ℕ) → Holds c m (walked (rowsOf b) f i) → i < length (b .accounts .members)
       → accountAt c m i ≡ accountRow b (getD (b .accounts .members) i 0)
   walk-member six i h q = walk-row (rowsOf b) (rows-shaped g) f six i h (omega (arith, g .sized .members)) ∙ member-row g i q

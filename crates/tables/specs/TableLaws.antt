@@ -18,13 +18,15 @@ use Rattle.model.specs.Calls.{Opening, opening, callOf}
 use Rattle.model.specs.Effects.{openedWith, after}
 use Rattle.model.specs.Refusals.{refusal}
 use Rattle.model.specs.Answers.{called, answer}
-use Rattle.model.specs.History.{run, answersTo}
+use Rattle.model.specs.History.{runFrom, run, answersTo}
 use Rattle.model.specs.RefusalLaws.{refused-same, accepted-called}
-use Rattle.model.specs.FrameLaws.{framed}
+use Rattle.model.specs.Kept.{Framed}
+use Rattle.model.specs.FrameLaws.{framed-new}
+use Rattle.model.specs.KeptLaws.{known}
 use Rattle.model.specs.Examples.{Line, ok, not-ok, linesOf, linesTo, printed}
 use Rattle.tables.specs.Tables.{Table, book, tabled, moved, walk}
 
--- ---- a book reached by calls is that of its tables
+-- ---- a book with one form is that of its tables
 same-parts : {s : Settings} {t : Today} {cs rs ms : List ℕ} {terms terms′ : ℕ → Terms} {tally tally′ : ℕ → Tally} {settled settled′ : ℕ → Settled}
     {held held′ : ℕ → Held} {funds funds′ : ℕ → Funds} {position position′ : ℕ → ℕ → Position} {z : ℤ}
     → terms ≡ terms′ → tally ≡ tally′ → settled ≡ settled′ → held ≡ held′ → funds ≡ funds′ → position ≡ position′
@@ -47,8 +49,8 @@ same-parts : {s : Settings} {t : Today} {cs rs ms : List ℕ} {terms terms′ : 
     })
 same-parts a b c d e f = rw (a, b, c, d, e, f)
 
-book-tabled : (h : List Entry) → book (tabled (run h)) ≡ run h
-book-tabled h = let b = run h in let i = framed h in
+book-tabled : (b : Book) → Framed b → book (tabled b) ≡ b
+book-tabled b i =
     same-parts
     (look-same (b .contracts .terms) noTerms (b .contracts .codes) (λ c e. i .unlisted-terms c e .0))
     (look-same (b .contracts .tally) noTally (b .contracts .codes) (λ c e. i .unlisted-terms c e .1))
@@ -64,11 +66,11 @@ pub record Reached (h : List Entry) (t : Table) (lines : List Line) : Type 0 whe
   pub prints : printed h ≡ lines
 
 pub reached-none : Reached [] (tabled new) []
-unfolding linesTo answersTo run
-reached-none = record { books = sym (book-tabled []); prints = refl }
+unfolding linesTo answersTo runFrom
+reached-none = record { books = sym (book-tabled new framed-new); prints = refl }
 
 run-more : (e : Entry) (h : List Entry) → run (e ∷ h) ≡ called (run h) e
-unfolding run
+unfolding runFrom
 run-more e h = refl
 
 reached-one : (e : Entry) (h : List Entry) (t : Table) (lines : List Line) → Reached h t lines
@@ -83,7 +85,7 @@ reached-one e h t lines r = record {
     moves = run-more e h ∙ ap (λ b. called b e) (r .books)
 
     go : (k : ℕ) → refusal (book t) e ≡ k → run (e ∷ h) ≡ book (moved k t e)
-    go zero p = sym (book-tabled (e ∷ h)) ∙ ap (λ b. book (tabled b)) (moves ∙ accepted-called (book t) e p refl)
+    go zero p = sym (book-tabled (run (e ∷ h)) (known (e ∷ h) .framed)) ∙ ap (λ b. book (tabled b)) (moves ∙ accepted-called (book t) e p refl)
     go (suc n) p = moves ∙ refused-same (book t) e n p .0
 
 -- calls, the earliest first, put on calls, the latest first

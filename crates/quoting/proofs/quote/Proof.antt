@@ -14,9 +14,8 @@ use Rattle.memory.specs.Layout.{withContractCounts, withContractMoney}
 use Rattle.model.specs.Book.{Book}
 use Rattle.model.specs.Calls.{Quote}
 use Rattle.model.specs.Refusals.{isOpen, inHours}
-use Rattle.model.specs.History.{run}
-use Rattle.standing.specs.Standing.{headerRow}
-use Rattle.standing.specs.Good.{good}
+use Rattle.standing.specs.StandingLaws.{sound-kept, sound-holds}
+use Rattle.standing.specs.Standing.{headerRow, view}
 use Rattle.standing.specs.SoundLaws.{sound-long, sound-header, sound-listed}
 use Rattle.standing.specs.DealLaws.{Stands, withTally}
 use Rattle.hours.specs.Searched.{code-at, code-none}
@@ -29,7 +28,7 @@ abbrev quotation : tie.Start → Quote
 quotation s = record { time = s .args .time; code = s .args .code; side = s .args .side; rate = s .args .rate }
 
 abbrev book : tie.Start → Book
-book s = run (s .pre .0 .history)
+book s = view (s .args .counts .now) (s .args .money .now)
 
 -- ---- from a place back to the one before it where something was found
 abbrev start : tie.After-load-header → tie.Start
@@ -72,7 +71,7 @@ live c = open-is (c .before) ∙ not-false _ (c .if1 .left)
 row : (c : tie.After-known-told) → let s = start-k c in Stands (book s .contracts .codes) (s .args .code) (c .before .k .given .0 .0)
 row c =
     let h = start-k c .pre .0 in
-    code-at (good (h .history)) (h .holds) _ _ (sym (found c .find-contract .ensures) ∙ c .before .k .given .1)
+    code-at (sound-kept h) (sound-holds h) _ _ (sym (found c .find-contract .ensures) ∙ c .before .k .given .1)
 
 hours : (c : tie.Else2) → inHours (start-k (before-hours c) .args .time) ≡ true
 hours c = sym (c .before .in-hours .ensures) ∙ not-false _ (c .if2 .left)
@@ -136,7 +135,7 @@ returns-2 c =
     let s = start-live (f .before .before) in
     let h = s .pre .0 in
     unlisted h (quotation s) (live (f .before .before))
-    (code-none (good (h .history)) (h .holds) (s .args .code) (sym (f .find-contract .ensures) ∙ c .enum-told .given .1))
+    (code-none (sound-kept h) (sound-holds h) (s .args .code) (sym (f .find-contract .ensures) ∙ c .enum-told .given .1))
 
 in-hours-requires : tie.Need-in-hours-requires
 in-hours-requires c κs = search needs

@@ -9,11 +9,11 @@ use Rattle.memory.specs.declared.header_row.Header.{Header}
 use Rattle.memory.specs.Layout.{Long}
 use Rattle.memory.specs.Memory.{Holds}
 use Rattle.model.specs.Book.{Book}
+use Rattle.model.specs.Kept.{Kept}
 use Rattle.standing.specs.Standing.{rowsOf, view}
-use Rattle.standing.specs.Good.{Good}
-use Rattle.standing.specs.StandingLaws.{rows-shaped}
-use Rattle.standing.specs.SoundLaws.{sound-long}
-use Rattle.standing.specs.WalkLaws.{view-good, view-holds, view-header, walked, walk-start, walk-long, walk-step}
+use Rattle.standing.specs.StandingLaws.{rows-shaped, sound-kept, sound-holds}
+use Rattle.standing.specs.SoundLaws.{sound-long, sound-header}
+use Rattle.standing.specs.WalkLaws.{walked, walk-start, walk-long, walk-step}
 use Rattle.settling.specs.SettlingLaws.{refreshed-six, good-reference, turn-limits, refresh-end}
 use Rattle.settling.proofs.refresh_members.Statement.{statement}
 use Rattle.settling.proofs.refresh_members.Tie as tie
@@ -34,29 +34,29 @@ module _ (s : tie.Start Inv-loop μ-loop) where
   abbrev book : Book
   book = view (s .args .counts .now) (s .args .money .now)
 
-  is-good : Good book
-  is-good = view-good (s .pre .0)
+  is-kept : Kept book
+  is-kept = sound-kept (s .pre .0)
 
   many : s .args .h .members ≡ length (book .accounts .members)
-  many = ap (λ (x : Header). x .members) (s .pre .1 ∙ view-header (s .pre .0))
+  many = ap (λ (x : Header). x .members) (s .pre .1 ∙ sound-header (s .pre .0))
 
   rate : s .args .h .reference ≡ book .settings .reference
-  rate = ap (λ (x : Header). x .reference) (s .pre .1)
+  rate = ap (λ (x : Header). x .reference) (s .pre .1 ∙ sound-header (s .pre .0))
 
 -- ---- a turn
 long : (c : tie.At-loop Inv-loop μ-loop) → Long (c .loop .counts) (c .loop .money)
 long c =
     let b = book (c .before .before) in
-    walk-long (rowsOf b) (rows-shaped (is-good (c .before .before))) (change b) (refreshed-six _) (c .loop .i) (c .loop .inv .1)
+    walk-long (rowsOf b) (rows-shaped (is-kept (c .before .before))) (change b) (refreshed-six _) (c .loop .i) (c .loop .inv .1)
 
 below : (c : tie.In-loop Inv-loop μ-loop) → c .before .loop .i < length (book (c .before .before .before) .accounts .members)
 below c = omega (arith, many (c .before .before .before))
 
 small : (c : tie.In-loop Inv-loop μ-loop) → c .before .loop .i < 64
-small c = omega (arith, below c, is-good (c .before .before .before) .sized .members)
+small c = omega (arith, below c, is-kept (c .before .before .before) .sized .members)
 
 loop-holds : tie.Need-loop-holds Inv-loop μ-loop
-loop-holds c = (omega arith, walk-start (change (book (c .before))) (view-holds (c .before .pre .0)))
+loop-holds c = (omega arith, walk-start (change (book (c .before))) (sound-holds (c .before .pre .0)))
 
 load-account-requires : tie.Need-load-account-requires Inv-loop μ-loop
 load-account-requires c κs = (long (c .before .before .before), small (c .before .before))
@@ -66,8 +66,8 @@ refresh-account-requires c κs =
     let l = c .before .before .before .before .loop in
     let s = c .before .before .before .before .before .before in
     rw (c .load-account .ensures) (
-      turn-limits (is-good s) (change (book s)) (refreshed-six _) (l .i) (l .inv .1) (below (c .before .before .before)),
-      subst GoodReference (sym (rate s)) (good-reference (is-good s)),
+      turn-limits (is-kept s) (change (book s)) (refreshed-six _) (l .i) (l .inv .1) (below (c .before .before .before)),
+      subst GoodReference (sym (rate s)) (good-reference (is-kept s)),
     )
 
 store-account-requires : tie.Need-store-account-requires Inv-loop μ-loop
@@ -87,7 +87,7 @@ loop-again c =
     let l = t .before .loop in
     let s = t .before .before .before in (
       omega arith,
-      walk-step (rowsOf (book s)) (rows-shaped (is-good s)) (change (book s)) (refreshed-six _) (l .i) (l .inv .1) (small t)
+      walk-step (rowsOf (book s)) (rows-shaped (is-kept s)) (change (book s)) (refreshed-six _) (l .i) (l .inv .1) (small t)
           (did .refresh-account .ensures ∙ ap₂ refreshed (rate s) (did .before .load-account .ensures))
           (put .store-account .ensures .0)
           (put .store-account .ensures .1),
@@ -104,7 +104,7 @@ returns : tie.Need-returns Inv-loop μ-loop
 returns c =
     let l = c .before .loop in
     let s = c .before .before .before in
-    refresh-end (is-good s) (l .i) (omega (arith, many s)) (l .inv .1)
+    refresh-end (is-kept s) (l .i) (omega (arith, many s)) (l .inv .1)
 
 pub refresh-members-spec : {M : Type 1} → statement M
 refresh-members-spec =

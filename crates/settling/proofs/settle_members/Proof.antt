@@ -14,11 +14,11 @@ use Rattle.memory.specs.Layout.{Long}
 use Rattle.memory.specs.Memory.{Holds}
 use Rattle.model.specs.Book.{Book}
 use Rattle.model.specs.Effects.{paidTo}
+use Rattle.model.specs.Kept.{Kept}
 use Rattle.standing.specs.Standing.{rowsOf, view}
-use Rattle.standing.specs.Good.{Good}
-use Rattle.standing.specs.StandingLaws.{rows-shaped}
-use Rattle.standing.specs.SoundLaws.{sound-long}
-use Rattle.standing.specs.WalkLaws.{view-good, view-holds, view-header, walked, walk-start, walk-long, walk-member, walk-step}
+use Rattle.standing.specs.StandingLaws.{rows-shaped, sound-kept, sound-holds}
+use Rattle.standing.specs.SoundLaws.{sound-long, sound-header, sound-house}
+use Rattle.standing.specs.WalkLaws.{walked, walk-start, walk-long, walk-member, walk-step}
 use Rattle.settling.specs.SettlingLaws.{settledRow, settled-six, houseAfter, house-start, house-step, house-within, turn-funds, settle-end}
 use Rattle.settling.proofs.settle_members.Statement.{statement}
 use Rattle.settling.proofs.settle_members.Tie as tie
@@ -36,23 +36,23 @@ module _ (s : tie.Start Inv-loop μ-loop) where
   abbrev book : Book
   book = view (s .args .counts .now) (s .args .money .now)
 
-  is-good : Good book
-  is-good = view-good (s .pre .0)
+  is-kept : Kept book
+  is-kept = sound-kept (s .pre .0)
 
   many : s .args .h .members ≡ length (book .accounts .members)
-  many = ap (λ (x : Header). x .members) (s .pre .1 ∙ view-header (s .pre .0))
+  many = ap (λ (x : Header). x .members) (s .pre .1 ∙ sound-header (s .pre .0))
 
 -- ---- a turn
 long : (c : tie.At-loop Inv-loop μ-loop) → Long (c .loop .counts) (c .loop .money)
 long c =
     let s = c .before .before .before .before in
-    walk-long (rowsOf (book s)) (rows-shaped (is-good s)) settledRow settled-six (c .loop .i) (c .loop .inv .1)
+    walk-long (rowsOf (book s)) (rows-shaped (is-kept s)) settledRow settled-six (c .loop .i) (c .loop .inv .1)
 
 below : (c : tie.In-loop Inv-loop μ-loop) → c .before .loop .i < length (book (c .before .before .before .before .before) .accounts .members)
 below c = omega (arith, many (c .before .before .before .before .before))
 
 small : (c : tie.In-loop Inv-loop μ-loop) → c .before .loop .i < 64
-small c = omega (arith, below c, is-good (c .before .before .before .before .before) .sized .members)
+small c = omega (arith, below c, is-kept (c .before .before .before .before .before) .sized .members)
 
 load-house-requires : tie.Need-load-house-requires Inv-loop μ-loop
 load-house-requires c κs = sound-long (c .before .before .pre .0) .money
@@ -61,8 +61,8 @@ loop-holds : tie.Need-loop-holds Inv-loop μ-loop
 loop-holds c =
     let s = c .before .before .before in (
       omega arith,
-      walk-start settledRow (view-holds (s .pre .0)),
-      told (c .load-house .result) (c .load-house .ok) ∙ c .load-house .ensures ∙ sym (house-start (book s)),
+      walk-start settledRow (sound-holds (s .pre .0)),
+      told (c .load-house .result) (c .load-house .ok) ∙ c .load-house .ensures ∙ sound-house (s .pre .0) ∙ sym (house-start (book s)),
     )
 
 load-account-requires : tie.Need-load-account-requires Inv-loop μ-loop
@@ -73,7 +73,7 @@ settled-requires c κs =
     let t = c .before .before .before .before in
     let l = t .before .loop in
     rw (c .before .load-account .ensures)
-    (turn-funds (is-good (t .before .before .before .before .before)) settledRow settled-six (l .i) (l .inv .1) (below t))
+    (turn-funds (is-kept (t .before .before .before .before .before)) settledRow settled-six (l .i) (l .inv .1) (below t))
 
 -- the house after this turn
 module _ (c : tie.After-struct-told Inv-loop μ-loop) where
@@ -95,13 +95,13 @@ module _ (c : tie.After-struct-told Inv-loop μ-loop) where
       ∙ ap (λ (x : Settlement). x .paid) (c .before .before .before .settled .ensures)
       ∙ ap (λ (a : Account). settled (a .funds) .paid)
       (c .before .before .before .before .before .load-account .ensures
-      ∙ walk-member (is-good start) settledRow settled-six place (turn .before .loop .inv .1) (below turn))
+      ∙ walk-member (is-kept start) settledRow settled-six place (turn .before .loop .inv .1) (below turn))
 
   house-is : toZ w64 (turn .before .loop .house) -ℤ toZ w64 (ofZ w64 (answer .paid)) ≡ houseAfter (book start) (place + 1)
   house-is = ap₂ _-ℤ_ (turn .before .loop .inv .2) paid-is ∙ house-step (book start) place (below turn)
 
   house-fits : SFits w64 (houseAfter (book start) (place + 1))
-  house-fits = fits64 (house-within (is-good start) (place + 1)) tt
+  house-fits = fits64 (house-within (is-kept start) (place + 1)) tt
 
 sub-house : tie.Need-sub-house Inv-loop μ-loop
 sub-house c = fits-is (house-is c) (house-fits c)
@@ -126,7 +126,7 @@ loop-again c =
     let s = start did in
     let more : place did + 1 ≤ s .args .h .members = omega (arith, below (turn did), many s) in (
       more,
-      walk-step (rowsOf (book s)) (rows-shaped (is-good s)) settledRow settled-six (place did) (turn did .before .loop .inv .1) (small (turn did))
+      walk-step (rowsOf (book s)) (rows-shaped (is-kept s)) settledRow settled-six (place did) (turn did .before .loop .inv .1) (small (turn did))
           (ap (paidRow (did .before .before .before .before .before .load-account .result)) (did .before .before .before .settled .ensures)
           ∙ ap settledRow (did .before .before .before .before .before .load-account .ensures))
           (put .store-account .ensures .0)
@@ -156,7 +156,7 @@ returns : tie.Need-returns Inv-loop μ-loop
 returns c =
     let l = c .before .before .before .before .before .before .before .before in
     let s = l .before .before .before .before in
-    settle-end (is-good s) (l .loop .i) (omega (arith, many s)) (l .loop .inv .1) (s .pre .1 ∙ view-header (s .pre .0)) (l .loop .inv .2)
+    settle-end (is-kept s) (l .loop .i) (omega (arith, many s)) (l .loop .inv .1) (s .pre .1 ∙ sound-header (s .pre .0)) (l .loop .inv .2)
     (c .before .before .store-header .ensures)
     (c .before .before .before .before .before .store-house .ensures)
 

@@ -27,13 +27,14 @@ start-requires c κs =
 
 limits-in-requires : tie.Need-limits-in-requires
 unfolding callOf
-limits-in-requires c κs = let g = rw (c .match .keys2) at (c .before .before .pre .1 .0) in amount-most (g .tolerance)
+limits-in-requires c κs = let g = rw (c .match .keys2) at (c .before .before .pre .1 .0) in amount-most (g .limits .tolerance)
 
 enrol-requires : tie.Need-enrol-requires
 unfolding callOf
 enrol-requires c κs =
     let s = c .before .before .before .before .before in
-    (s .pre .0, rw (c .before .before .limits-in .ensures) (rw (c .before .before .before .match .keys2) at (s .pre .1 .0)))
+    let g = rw (c .before .before .before .match .keys2) at (s .pre .1 .0) in
+    (s .pre .0, rw (c .before .before .limits-in .ensures) (g .limits))
 
 pay-in-requires : tie.Need-pay-in-requires
 unfolding callOf

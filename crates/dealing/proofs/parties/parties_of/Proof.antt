@@ -13,8 +13,8 @@ use Rattle.memory.specs.MemoryLaws.{header-is}
 use Rattle.model.specs.Book.{Book}
 use Rattle.model.specs.Calls.{Trade}
 use Rattle.model.specs.Refusals.{isOpen, inHours}
+use Rattle.model.specs.Kept.{Kept}
 use Rattle.standing.specs.Standing.{headerRow, rowsOf}
-use Rattle.standing.specs.Good.{Good}
 use Rattle.standing.specs.StandingLaws.{rows-shaped}
 use Rattle.standing.specs.MemberLaws.{member-none}
 use Rattle.standing.specs.DealLaws.{Stands, Between}
@@ -53,7 +53,7 @@ deal s = tradeOf (s .args .t)
 abbrev Of : Book → List ℤ → tie.Start → Type 0
 Of b m s = Holds (s .args .counts .now) m (rowsOf b)
 
-module _ {b : Book} {m : List ℤ} (g : Good b) where
+module _ {b : Book} {m : List ℤ} (g : Kept b) where
   header : (s : tie.Start) → Of b m s → s .args .h ≡ headerRow b
   header s h = s .pre .header ∙ header-is (rowsOf b) (rows-shaped g) h
 
@@ -160,7 +160,7 @@ in-time c = c .before .before .before
 hours : (c : tie.Else3) → inHours (deal-of c .time) ≡ true
 hours c = sym (c .before .in-hours .ensures) ∙ not-false _ (c .if3 .left)
 
-module _ {b : Book} {m : List ℤ} (g : Good b) where
+module _ {b : Book} {m : List ℤ} (g : Kept b) where
   clock : (c : tie.Else4) → Of b m (start-j (apart (in-time c) .before .before)) → leb (b .today .clock) (deal-of (in-time c) .time) ≡ true
   clock c h =
       let e = ap (λ (x : Header). x .clock) (header g (start-j (apart (in-time c) .before .before)) h) in

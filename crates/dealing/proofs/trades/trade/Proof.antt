@@ -1,12 +1,16 @@
--- What is found of the trade is of the book that calls have made.
+-- What is found of the trade is of the book that the memory stands for.
 use mathlib.Core.Path.{_∙_}
 use borrow.Author.Needs.{needs}
-use Rattle.model.specs.History.{run}
-use Rattle.standing.specs.Good.{good}
+use Rattle.standing.specs.Standing.{view}
+use Rattle.standing.specs.StandingLaws.{sound-kept, sound-holds}
+use Rattle.model.specs.Book.{Book}
 use Rattle.standing.specs.SoundLaws.{sound-long, sound-header, sound-members, sound-listed}
 use Rattle.dealing.specs.TradedLaws.{refused-traded}
 use Rattle.dealing.proofs.trades.trade.Statement.{statement}
 use Rattle.dealing.proofs.trades.trade.Tie as tie
+
+abbrev book : tie.Start → Book
+book s = view (s .args .counts .now) (s .args .money .now)
 
 load-header-requires : tie.Need-load-header-requires
 load-header-requires c κs = sound-long (c .before .before .pre .0) .counts
@@ -30,12 +34,12 @@ trade-between-requires c κs =
     let s = head .before .before .before in
     let h = s .pre .0 in
     record {
-      book = run (h .history);
-      good = good (h .history);
-      holds = h .holds;
+      book = book s;
+      known = sound-kept h;
+      holds = sound-holds h;
       header = head .load-header .ensures ∙ sound-header h;
       range = s .pre .1;
-      ready = rw (row .k .given .1) at (found .parties-of .ensures (run (h .history)) (s .args .money .now) (good (h .history)) (h .holds));
+      ready = rw (row .k .given .1) at (found .parties-of .ensures (book s) (s .args .money .now) (sound-kept h) (sound-holds h));
     }
 
 same-length : tie.Need-same-length
@@ -46,8 +50,8 @@ returns c =
     let found = c .before .before .before in
     let s = found .before .before .before .before .before in
     let h = s .pre .0 in
-    refused-traded (good (h .history)) (h .holds)
-    (rw (c .before .number .given .1) at (found .parties-of .ensures (run (h .history)) (s .args .money .now) (good (h .history)) (h .holds)))
+    refused-traded (sound-kept h) (sound-holds h)
+    (rw (c .before .number .given .1) at (found .parties-of .ensures (book s) (s .args .money .now) (sound-kept h) (sound-holds h)))
 
 same-length-2 : tie.Need-same-length-2
 same-length-2 c = search needs

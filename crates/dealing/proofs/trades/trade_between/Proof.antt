@@ -49,7 +49,7 @@ bought c =
     c .with-lots .ensures
     ∙ ap₂ (λ l r. withHoldings (loaded .load-account .result) (withTrade (loaded .load-account .result .holdings) (s .args .k) l r))
     (lots s .eq) (rate s .eq)
-    ∙ moved-is (s .pre) (s .pre .ready .between .buyer) (loaded .load-account .ensures) (buyer-lots (s .pre .good) (s .pre .ready .between))
+    ∙ moved-is (s .pre) (s .pre .ready .between .buyer) (loaded .load-account .ensures) (buyer-lots (s .pre .known) (s .pre .ready .between))
 
 sold : (c : tie.After-with-lots2) → let s = start (c .before .before) in
     c .with-lots2 .result ≡ accountRow (traded (s .pre .book) (deal s)) (s .args .t .seller)
@@ -59,10 +59,10 @@ sold c =
     c .with-lots2 .ensures
     ∙ ap₂ (λ l r. withHoldings (loaded .load-account2 .result) (withTrade (loaded .load-account2 .result .holdings) (s .args .k) l r))
     (less s .eq) (rate s .eq)
-    ∙ moved-is (s .pre) (s .pre .ready .between .seller) (loaded .load-account2 .ensures) (seller-lots (s .pre .good) (s .pre .ready .between))
+    ∙ moved-is (s .pre) (s .pre .ready .between .seller) (loaded .load-account2 .ensures) (seller-lots (s .pre .known) (s .pre .ready .between))
 
 margins : (c : tie.After-load-margins) → c .load-margins .result ≡ marginsOf (start c .pre .book)
-margins c = let d = start c .pre in c .load-margins .ensures ∙ margins-are (d .good) (d .ready .between .live) (d .holds)
+margins c = let d = start c .pre in c .load-margins .ensures ∙ margins-are (d .known) (d .ready .between .live) (d .holds)
 
 -- ---- what they answer
 abbrev judging : tie.After-judge → tie.After-load-margins
@@ -136,7 +136,7 @@ judge-requires c κs =
       moved (s .args .k) buyer (passed (lots s)) (passed (rate s)) (c .before .with-lots .ensures),
       (
         moved (s .args .k) seller (passed (less s)) (passed (rate s)) (c .with-lots2 .ensures),
-        (row-k (s .pre), rw (margins m) (margins-sound (s .pre .good) (s .pre .ready .between .live))),
+        (row-k (s .pre), rw (margins m) (margins-sound (s .pre .known) (s .pre .ready .between .live))),
       ),
     )
 
@@ -158,7 +158,7 @@ returns c =
     let s = start (judging q) in
     let told = c .enum-told2 .given .1 in
     subst (λ r. Traded (s .args .counts .now) (s .args .money .now) (deal s) r (s .args .counts .now) (s .args .money .now)) (sym told)
-    (refused-traded (s .pre .good) (s .pre .holds) (subst (Answers (s .pre .book) (deal s)) told (answer q)))
+    (refused-traded (s .pre .known) (s .pre .holds) (subst (Answers (s .pre .book) (deal s)) told (answer q)))
 
 store-account-requires : tie.Need-store-account-requires
 store-account-requires c κs =
@@ -190,7 +190,7 @@ returns-2 c =
     let s = start-stored q in
     let told = first-stored q .before .before .before .enum-told .given .1 in
     subst (λ r. Traded (s .args .counts .now) (s .args .money .now) (deal s) r (w .write-trade .last .0) (w .write-trade .last .1 .0)) (sym told)
-    (accepted-traded (s .pre .good) (s .pre .holds) (subst (Answers (s .pre .book) (deal s)) told (answer (accepted (first-stored q))))
+    (accepted-traded (s .pre .known) (s .pre .holds) (subst (Answers (s .pre .book) (deal s)) told (answer (accepted (first-stored q))))
     (all-written (s .pre) (both q) (w .write-trade .ensures)))
 
 pub trade-between-spec : {M : Type 1} → statement M

@@ -1,5 +1,5 @@
 use borrow.Author.Needs.{needs}
-use Rattle.desk.specs.FollowLaws.{fed-notable, fed-followed, fed-unread}
+use Rattle.desk.specs.FollowLaws.{followable-sound, fed-notable, fed-followed, fed-unread}
 use Rattle.desk.proofs.following.follow.Statement.{statement}
 use Rattle.desk.proofs.following.follow.Tie as tie
 
@@ -7,7 +7,7 @@ read-record-requires : tie.Need-read-record-requires
 read-record-requires c κs = search needs
 
 feed-requires : tie.Need-feed-requires
-feed-requires c κs = search needs
+feed-requires c κs = followable-sound (c .before .before .before .before .before .before .pre)
 
 enum-known-fed : tie.Need-enum-known-fed
 enum-known-fed c = search needs

@@ -1,6 +1,7 @@
 -- A record that was followed brings the place on; bytes that are none stop there.
 use Rattle.explaining.specs.StateLaws.{further-on, further-not}
-use Rattle.explaining.specs.FollowedLaws.{followable-sound, followed-bad, followed-further, followed-on}
+use Rattle.desk.specs.FollowLaws.{followable-sound}
+use Rattle.explaining.specs.FollowedLaws.{followed-bad, followed-further, followed-on}
 use borrow.Author.Needs.{needs}
 use Rattle.explaining.proofs.followed.take_call.Statement.{statement}
 use Rattle.explaining.proofs.followed.take_call.Tie as tie

@@ -1,16 +1,17 @@
 -- An accepted close is explained by what the account had before it, and the next day begins with an empty table.
 use Rattle.explaining.specs.StateLaws.{further-on, further-not}
-use Rattle.explaining.specs.FollowedLaws.{followable-sound, followed-bad, followed-further, followed-on, followed-closing, closed-followable, explained-long, explained-table}
+use Rattle.desk.specs.FollowLaws.{followable-sound}
+use Rattle.explaining.specs.FollowedLaws.{followed-bad, followed-further, followed-on, followed-closing, closed-followable, explained-long, explained-table}
 use native.Mathlib.Omega.{arith}
 use borrow.Author.Needs.{needs}
 use Rattle.explaining.proofs.followed.take_close.Statement.{statement}
 use Rattle.explaining.proofs.followed.take_close.Tie as tie
 
 standing-of-requires : tie.Need-standing-of-requires
-standing-of-requires c κs = search needs
+standing-of-requires c κs = search (needs, followable-sound)
 
 unpaid-of-requires : tie.Need-unpaid-of-requires
-unpaid-of-requires c κs = search needs
+unpaid-of-requires c κs = search (needs, followable-sound)
 
 follow-requires : tie.Need-follow-requires
 follow-requires c κs = search needs

@@ -1,5 +1,5 @@
 -- Each turn keeps the memory and the table of a history and a part of the block to go on with, and takes at most a block of the file.
-use Rattle.explaining.specs.FollowedLaws.{followable-sound}
+use Rattle.desk.specs.FollowLaws.{followable-sound}
 use Rattle.desk.specs.Follows.{Followable}
 use Rattle.window.specs.Window.{Within}
 use lib.ListN.{length}

@@ -9,10 +9,11 @@ use Rattle.decimal.specs.Put.{Put}
 use Rattle.model.specs.Book.{Book}
 use Rattle.model.specs.Answers.{Bill, billIn}
 use Rattle.standing.specs.Standing.{view}
+use Rattle.standing.specs.StandingLaws.{sound-kept}
 use Rattle.reports.specs.ReportLaws.{LowestIs, Pinned, pinned}
 use Rattle.lines.specs.Lines.{asBill, accountLine}
 use Rattle.lines.specs.LineLaws.{Walked, walk-begins, walk-ends, walk-room, walk-next}
-use Rattle.lines.specs.KeyLaws.{members-few, sound-small, billed-is, billed-there}
+use Rattle.lines.specs.KeyLaws.{billed-is, billed-there}
 use Rattle.lines.specs.LengthLaws.{account-length}
 use Rattle.lines.proofs.close_lines.put_accounts.Statement.{statement}
 use Rattle.lines.proofs.close_lines.put_accounts.Tie as tie
@@ -99,7 +100,7 @@ module _ (c : tie.After-bill Inv-loop μ-loop) where
   k = keyed c .number .given .0 .0
 
   small : k ≤ 9999999
-  small = sound-small (start p .pre .0) .member k (lowest (keyed c) .there)
+  small = sound-kept (start p .pre .0) .keys .numbers k (lowest (keyed c) .there)
 
   wide : (number : ℕ) → length (lineIn (book p) number) ≤ 120
   wide number = account-length number (billIn (book p) number)
@@ -108,12 +109,12 @@ module _ (c : tie.After-bill Inv-loop μ-loop) where
   fits = omega (arith, start p .pre .1)
 
   room : p .loop .next + 120 ≤ length (p .loop .room)
-  room = walk-room 120 64 wide (members-few (start p .pre .0)) fits (p .loop .inv) k (lowest (keyed c))
+  room = walk-room 120 64 wide (sound-kept (start p .pre .0) .sized .members) fits (p .loop .inv) k (lowest (keyed c))
 
   more : {room′ : List ℕ} {next : ℕ} → Put (p .loop .room) (p .loop .next) (accountLine k (asBill (c .bill .given .0 .0))) next room′
       → Walked (lineIn (book p)) (book p .accounts .members) (start p .args .room .now) (start p .args .at) (k + 1) room′ next
   more {room′} {next} put =
-      walk-next 120 64 wide (members-few (start p .pre .0)) fits (p .loop .inv) k (lowest (keyed c))
+      walk-next 120 64 wide (sound-kept (start p .pre .0) .sized .members) fits (p .loop .inv) k (lowest (keyed c))
       (subst (λ (x : Bill). Put (p .loop .room) (p .loop .next) (accountLine k x) next room′)
       (billed-is (book p) k (lowest (keyed c) .there) (sym (c .bill .given .1) ∙ c .before .before .bill-of .ensures)) put)
 

@@ -9,10 +9,11 @@ use Rattle.decimal.specs.Put.{Put}
 use Rattle.model.specs.Book.{Book}
 use Rattle.rates.specs.declared.Settled.{Settled}
 use Rattle.standing.specs.Standing.{view}
+use Rattle.standing.specs.StandingLaws.{sound-kept}
 use Rattle.reports.specs.ReportLaws.{LowestIs, Pinned, pinned}
 use Rattle.lines.specs.Lines.{rateLine}
 use Rattle.lines.specs.LineLaws.{Walked, walk-begins, walk-ends, walk-room, walk-next}
-use Rattle.lines.specs.KeyLaws.{codes-few, sound-small, rated-is, rated-there}
+use Rattle.lines.specs.KeyLaws.{rated-is, rated-there}
 use Rattle.lines.specs.LengthLaws.{rate-length}
 use Rattle.lines.proofs.close_lines.put_rates.Statement.{statement}
 use Rattle.lines.proofs.close_lines.put_rates.Tie as tie
@@ -99,7 +100,7 @@ module _ (c : tie.After-found Inv-loop μ-loop) where
   k = keyed c .code .given .0 .0
 
   small : k < 10000
-  small = sound-small (start p .pre .0) .code k (lowest (keyed c) .there)
+  small = sound-kept (start p .pre .0) .keys .codes k (lowest (keyed c) .there)
 
   wide : (code : ℕ) → length (lineIn (book p) code) ≤ 96
   wide code = rate-length code (book p .results .settled code)
@@ -108,12 +109,12 @@ module _ (c : tie.After-found Inv-loop μ-loop) where
   fits = omega (arith, start p .pre .1)
 
   room : p .loop .next + 96 ≤ length (p .loop .room)
-  room = walk-room 96 6 wide (codes-few (start p .pre .0)) fits (p .loop .inv) k (lowest (keyed c))
+  room = walk-room 96 6 wide (sound-kept (start p .pre .0) .keys .few) fits (p .loop .inv) k (lowest (keyed c))
 
   more : {room′ : List ℕ} {next : ℕ} → Put (p .loop .room) (p .loop .next) (rateLine k (c .found .given .0 .0)) next room′
       → Walked (lineIn (book p)) (book p .results .codes) (start p .args .room .now) (start p .args .at) (k + 1) room′ next
   more {room′} {next} put =
-      walk-next 96 6 wide (codes-few (start p .pre .0)) fits (p .loop .inv) k (lowest (keyed c))
+      walk-next 96 6 wide (sound-kept (start p .pre .0) .keys .few) fits (p .loop .inv) k (lowest (keyed c))
       (subst (λ (x : Settled). Put (p .loop .room) (p .loop .next) (rateLine k x) next room′)
       (rated-is (book p) k (lowest (keyed c) .there) (sym (c .found .given .1) ∙ c .before .before .rate-of .ensures)) put)
 

@@ -5,9 +5,9 @@ use borrow.Author.Tests.{not-true, not-false}
 use borrow.Author.Needs.{needs}
 use Rattle.model.specs.Book.{Book}
 use Rattle.model.specs.Calls.{Trade}
-use Rattle.model.specs.History.{run}
 use Rattle.model.specs.Refusals.{isOpen}
-use Rattle.standing.specs.Good.{good}
+use Rattle.standing.specs.Standing.{view}
+use Rattle.standing.specs.StandingLaws.{sound-kept, sound-holds}
 use Rattle.standing.specs.DealLaws.{Stands}
 use Rattle.standing.specs.MemberLaws.{member-none}
 use Rattle.standing.specs.SoundLaws.{sound-long, sound-members, sound-listed}
@@ -34,7 +34,7 @@ abbrev start-i : tie.After-i → tie.Start
 start-i c = start-k (before-i c)
 
 abbrev book : tie.Start → Book
-book s = run (s .pre .0 .history)
+book s = view (s .args .counts .now) (s .args .money .now)
 
 abbrev deal : tie.Start → Trade
 deal s = tradeOf (s .args .t)
@@ -49,12 +49,12 @@ live c = open-at (c .before) ∙ not-false _ (c .if1 .left)
 contract : (c : tie.After-k) → let s = start-k c in Stands (book s .contracts .codes) (deal s .code) (c .k .given .0 .0)
 contract c =
     let h = start-k c .pre .0 in
-    code-at (good (h .history)) (h .holds) _ _ (sym (c .before .before .find-contract .ensures) ∙ c .k .given .1)
+    code-at (sound-kept h) (sound-holds h) _ _ (sym (c .before .before .find-contract .ensures) ∙ c .k .given .1)
 
 side : (c : tie.After-i) → let s = start-i c in Stands (book s .accounts .members) (s .args .number) (c .i .given .0 .0)
 side c =
     let h = start-i c .pre .0 in
-    number-at (good (h .history)) (h .holds) _ _ (sym (c .before .before .find-account .ensures) ∙ c .i .given .1)
+    number-at (sound-kept h) (sound-holds h) _ _ (sym (c .before .before .find-account .ensures) ∙ c .i .given .1)
 
 load-header-requires : tie.Need-load-header-requires
 load-header-requires c κs = sound-long (c .before .pre .0) .counts
@@ -82,7 +82,7 @@ returns-2 c =
     let s = start (found .before .before) in
     let h = s .pre .0 in
     asked-unlisted h (deal s) (s .args .number) (live (found .before))
-    (code-none (good (h .history)) (h .holds) (deal s .code) (sym (found .find-contract .ensures) ∙ c .enum-told .given .1))
+    (code-none (sound-kept h) (sound-holds h) (deal s .code) (sym (found .find-contract .ensures) ∙ c .enum-told .given .1))
 
 find-account-requires : tie.Need-find-account-requires
 find-account-requires c κs = let h = start-k (c .before) .pre .0 in (sound-long h .counts, sound-members h)
@@ -100,7 +100,7 @@ returns-3 c =
     let s = start-k k in
     let h = s .pre .0 in
     asked-unknown h (deal s) (s .args .number) (live (before-k k)) (has-here (contract k))
-    (member-none (good (h .history)) (h .holds) (s .args .number) (sym (found .find-account .ensures) ∙ c .enum-told2 .given .1))
+    (member-none (sound-kept h) (sound-holds h) (s .args .number) (sym (found .find-account .ensures) ∙ c .enum-told2 .given .1))
 
 side-totals-requires : tie.Need-side-totals-requires
 side-totals-requires c κs =
@@ -108,8 +108,8 @@ side-totals-requires c κs =
     let s = start-i i in
     let h = s .pre .0 in record {
       book = book s;
-      good = good (h .history);
-      holds = h .holds;
+      known = sound-kept h;
+      holds = sound-holds h;
       live = live (before-k (before-i i));
       contract = contract (before-i i);
       side = side i;

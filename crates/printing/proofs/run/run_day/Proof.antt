@@ -1,6 +1,7 @@
 -- A new book is sound.
 use borrow.Author.Needs.{needs}
-use Rattle.book.specs.CalledLaws.{new-sound}
+use Rattle.model.specs.KeptLaws.{kept-new}
+use Rattle.standing.specs.StandingLaws.{sound-of}
 use Rattle.printing.proofs.run.run_day.Statement.{statement}
 use Rattle.printing.proofs.run.run_day.Tie as tie
 
@@ -8,7 +9,7 @@ new-book-requires : tie.Need-new-book-requires
 new-book-requires c κs = search needs
 
 run-within-requires : tie.Need-run-within-requires
-run-within-requires c κs = new-sound (c .before .before .before .before .new-book .ensures)
+run-within-requires c κs = sound-of kept-new (c .before .before .before .before .new-book .ensures)
 
 returns : tie.Need-returns
 returns c = search needs
