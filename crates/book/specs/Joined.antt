@@ -64,7 +64,7 @@ holds-joined : {counts : List ℕ} {money : List ℤ} (h : List Entry) → Holds
 holds-joined h m = record { from = holds-from kept-new h m; promises = promises h }
 
 pub joined : {counts : List ℕ} {money : List ℤ} {h : List Entry} → Reached new counts money h → Joined counts money h
-joined {h} p = record { from = joined-from kept-new p; promises = promises h }
+joined {h} p = holds-joined h (reached-holds kept-new p)
 
 -- ---- bytes: a record that was read is the next call, and one that was not is none
 abbrev pub withRead : Parsed → List Entry → List Entry

@@ -15,8 +15,8 @@ use Rattle.model.specs.Refusals.{inHours}
 use Rattle.model.specs.Answers.{answered}
 use Rattle.model.specs.RangeLaws.{GoodTrade}
 use Rattle.model.specs.Kept.{Kept}
-use Rattle.standing.specs.Standing.{headerRow, rowsOf}
-use Rattle.standing.specs.Made.{decided}
+use Rattle.standing.specs.Standing.{headerRow, rowsOf, view}
+use Rattle.standing.specs.Made.{Sound, decided}
 use Rattle.standing.specs.DealLaws.{Between}
 use Rattle.dealing.specs.declared.Dealt.{Dealt}
 use Rattle.dealing.specs.declared.Dealt.the-variants.{Refused}
@@ -50,11 +50,9 @@ Found b t (parties.Refused number) = Answers b t (Refused number)
 abbrev pub PartiesOf : List ℕ → Trade → Parties → Type 0
 PartiesOf counts t r = (b : Book) (money : List ℤ) → Kept b → Holds counts money (rowsOf b) → Found b t r
 
--- such a trade, in range, with a book's memory and header
+-- such a trade, in range, with a sound memory and its header
 pub record Deals (counts : List ℕ) (money : List ℤ) (h : Header) (t : Trade) (k i j : ℕ) : Type 0 where
-  pub book : Book
-  pub known : Kept book
-  pub holds : Holds counts money (rowsOf book)
-  pub header : h ≡ headerRow book
+  pub sound : Sound counts money
+  pub header : h ≡ headerRow (view counts money)
   pub range : GoodTrade t
-  pub ready : Ready book t k i j
+  pub ready : Ready (view counts money) t k i j

@@ -1,5 +1,5 @@
 -- A trade's answer is the model's, and so is the memory after it.
-use mathlib.Core.Path.{_≡_, refl, sym, ap, ap₂, _∙_, subst}
+use mathlib.Core.Path.{_≡_, refl, sym, ap, ap₂, _∙_}
 use mathlib.Core.Bool.{Bool, true, false, not, cond}
 use mathlib.Core.List.{List, [], _∷_}
 use Prim.Native.Nat.{ℕ, zero, suc}
@@ -16,11 +16,10 @@ use Rattle.model.specs.Effects.{traded, after}
 use Rattle.model.specs.Refusals.{needs, firstOf, sideTotals}
 use Rattle.model.specs.Answers.{refused, bothSides, answered, kept}
 use Rattle.model.specs.Kept.{Kept}
-use Rattle.standing.specs.Standing.{accountRow, rowsOf}
-use Rattle.standing.specs.Made.{decided}
-use Rattle.standing.specs.StandingLaws.{view-is}
+use Rattle.standing.specs.Standing.{accountRow, rowsOf, view}
+use Rattle.standing.specs.Made.{decided, Sound}
+use Rattle.standing.specs.StandingLaws.{sound-holds}
 use Rattle.standing.specs.DealLaws.{side-is}
-use Rattle.dealing.specs.declared.Dealt.{Dealt}
 use Rattle.dealing.specs.declared.Dealt.the-variants.{Refused, Accepted}
 use Rattle.dealing.specs.Dealing.{answerOf, Traded}
 use Rattle.dealing.specs.Sides.{weighed, judged}
@@ -70,18 +69,10 @@ unfolding after
 accepted-keeps b t x y zero e = refl
 accepted-keeps b t x y (suc d) e = let z : _≡_ {A = ℕ} 0 1 = cc in absurd (omega arith)
 
-module _ {c : List ℕ} {m : List ℤ} {b : Book} {t : Trade} (g : Kept b) (h : Holds c m (rowsOf b)) where
-  answers-traded : {c′ : List ℕ} {m′ : List ℤ} {r : Dealt} → Answers b t r → Holds c′ m′ (rowsOf (kept (decided b (trade t)) b (trade t)))
-      → Traded c m t r c′ m′
-  answers-traded {c′} {m′} {r} a k =
-      let same = sym (view-is g h) in record {
-        answers = subst (λ v. Answers v t r) same a;
-        memory = subst (λ v. Holds c′ m′ (rowsOf (kept (decided v (trade t)) v (trade t)))) same k;
-      }
+module _ {c : List ℕ} {m : List ℤ} (s : Sound c m) {t : Trade} where
+  pub refused-traded : {n : ℕ} → Answers (view c m) t (Refused n) → Traded c m t (Refused n) c m
+  refused-traded {n} a = record { answers = a; memory = rw (refused-keeps (view c m) t n (decided (view c m) (trade t)) a) (sound-holds s) }
 
-  pub refused-traded : {n : ℕ} → Answers b t (Refused n) → Traded c m t (Refused n) c m
-  refused-traded {n} a = answers-traded a (rw (refused-keeps b t n (decided b (trade t)) a) h)
-
-  pub accepted-traded : {c′ : List ℕ} {m′ : List ℤ} {x y : Totals} → Answers b t (Accepted x y) → Holds c′ m′ (rowsOf (traded b t))
-      → Traded c m t (Accepted x y) c′ m′
-  accepted-traded {x = x} {y = y} a k = answers-traded a (rw (accepted-keeps b t x y (decided b (trade t)) a) k)
+  pub accepted-traded : {c′ : List ℕ} {m′ : List ℤ} {x y : Totals} → Answers (view c m) t (Accepted x y)
+      → Holds c′ m′ (rowsOf (traded (view c m) t)) → Traded c m t (Accepted x y) c′ m′
+  accepted-traded {x = x} {y = y} a h = record { answers = a; memory = rw (accepted-keeps (view c m) t x y (decided (view c m) (trade t)) a) h }

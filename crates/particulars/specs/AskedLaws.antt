@@ -26,7 +26,6 @@ use Rattle.holdings.specs.declared.Totals.{Totals}
 use Rattle.accounts.specs.declared.Account.{Account}
 use Rattle.memory.specs.declared.header_row.Header.{Header}
 use Rattle.memory.specs.Layout.{Long, headerAt, accountAt, marginAt}
-use Rattle.memory.specs.MemoryLaws.{memory-long}
 use Rattle.model.specs.Book.{Book, holding, positionsOf, holdingsOf, marginsOf, isMember, isListed}
 use Rattle.model.specs.Calls.{Trade}
 use Rattle.model.specs.Effects.{lotsFor, traded}
@@ -34,11 +33,11 @@ use Rattle.model.specs.RangeLaws.{GoodTrade}
 use Rattle.model.specs.Refusals.{isOpen, sideTotals}
 use Rattle.model.specs.Kept.{Kept}
 use Rattle.model.specs.KeptLaws.{kept-once, kept-six, kept-few}
-use Rattle.standing.specs.Standing.{accountRow, rowsOf, view}
+use Rattle.standing.specs.Standing.{accountRow, view}
 use Rattle.standing.specs.Made.{Sound}
-use Rattle.standing.specs.StandingLaws.{rows-shaped, view-is, sound-kept}
+use Rattle.standing.specs.StandingLaws.{sound-kept, sound-holds}
 use Rattle.standing.specs.MemberLaws.{member-account}
-use Rattle.standing.specs.SoundLaws.{sound-header}
+use Rattle.standing.specs.SoundLaws.{sound-header, sound-long}
 use Rattle.standing.specs.DealLaws.{Stands, held-sound, margins-sound, margins-are}
 use Rattle.particulars.specs.declared.Asked.the-variants.{Of, Nothing}
 use Rattle.particulars.specs.Particulars.{IsSide, askedIn}
@@ -91,20 +90,23 @@ module _ {b : Book} (t : Trade) {k : ℕ} (g : Kept b) (row : Stands (b .contrac
 
 -- ---- what is loaded
 module _ {c : List ℕ} {m : List ℤ} {t : Trade} {n k i : ℕ} (d : Proposed c m t n k i) where
+  known : Kept (view c m)
+  known = sound-kept (d .sound)
+
   pub proposed-long : Long c m
-  proposed-long = memory-long (rowsOf (d .book)) (rows-shaped (d .known)) (d .holds)
+  proposed-long = sound-long (d .sound)
 
   pub row-k : k < 6
-  row-k = omega (arith, d .contract .below, kept-few (d .known))
+  row-k = omega (arith, d .contract .below, kept-few known)
 
   pub row-i : i < 64
-  row-i = omega (arith, d .side .below, d .known .sized .members)
+  row-i = omega (arith, d .side .below, known .sized .members)
 
-  side-in : accountAt c m i ≡ accountRow (d .book) n
-  side-in = member-account (d .known) (d .holds) n i (d .side .below) (d .side .here)
+  side-in : accountAt c m i ≡ accountRow (view c m) n
+  side-in = member-account known (sound-holds (d .sound)) n i (d .side .below) (d .side .here)
 
   pub side-sound : {a : Account} → a ≡ accountAt c m i → holdings.Sound 10000 (a .holdings)
-  side-sound e = rw (e ∙ side-in) (held-sound (d .known) (d .live) n)
+  side-sound e = rw (e ∙ side-in) (held-sound known (d .live) n)
 
   pub nets-after : {a : Account} {after : Holdings} {lots rate : ℤ} → a ≡ accountAt c m i → Within 1000 lots → Within 100000 rate
       → after ≡ withTrade (a .holdings) k lots rate → Nets 21000 (after .positions)
@@ -113,19 +115,18 @@ module _ {c : List ℕ} {m : List ℤ} {t : Trade} {n k i : ℕ} (d : Proposed c
   abbrev marginsIn : List ℕ
   marginsIn = marginAt c 0 ∷ marginAt c 1 ∷ marginAt c 2 ∷ marginAt c 3 ∷ marginAt c 4 ∷ marginAt c 5 ∷ []
 
-  margins-in : {margins : List ℕ} → margins ≡ marginsIn → margins ≡ marginsOf (d .book)
-  margins-in e = e ∙ margins-are (d .known) (d .live) (d .holds)
+  margins-in : {margins : List ℕ} → margins ≡ marginsIn → margins ≡ marginsOf (view c m)
+  margins-in e = e ∙ margins-are known (d .live) (sound-holds (d .sound))
 
   pub margins-fit : {margins : List ℕ} → margins ≡ marginsIn → Margins margins
-  margins-fit e = rw (margins-in e) (margins-sound (d .known) (d .live))
+  margins-fit e = rw (margins-in e) (margins-sound known (d .live))
 
   -- and the totals that it gives
   pub totals-are : {a : Account} {after : Holdings} {margins : List ℕ} {lots rate : ℤ} → a ≡ accountAt c m i → margins ≡ marginsIn
       → after ≡ withTrade (a .holdings) k lots rate → lots ≡ lotsFor t n → rate ≡ t .rate
       → totalsOf margins (a .holdings) after ≡ sideTotals (view c m) t n
   totals-are e ms f l r =
-      rw (f, l, r, e ∙ side-in, margins-in ms) (totals-after t (d .known) (d .contract) n (d .live))
-      ∙ ap (λ x. sideTotals x t n) (sym (view-is (d .known) (d .holds)))
+      rw (f, l, r, e ∙ side-in, margins-in ms) (totals-after t known (d .contract) n (d .live))
 
 -- ---- what is answered
 module _ {c : List ℕ} {m : List ℤ} (s : Sound c m) where

@@ -34,9 +34,7 @@ trade-between-requires c κs =
     let s = head .before .before .before in
     let h = s .pre .0 in
     record {
-      book = book s;
-      known = sound-kept h;
-      holds = sound-holds h;
+      sound = h;
       header = head .load-header .ensures ∙ sound-header h;
       range = s .pre .1;
       ready = rw (row .k .given .1) at (found .parties-of .ensures (book s) (s .args .money .now) (sound-kept h) (sound-holds h));
@@ -50,7 +48,7 @@ returns c =
     let found = c .before .before .before in
     let s = found .before .before .before .before .before in
     let h = s .pre .0 in
-    refused-traded (sound-kept h) (sound-holds h)
+    refused-traded h
     (rw (c .before .number .given .1) at (found .parties-of .ensures (book s) (s .args .money .now) (sound-kept h) (sound-holds h)))
 
 same-length-2 : tie.Need-same-length-2

@@ -9,10 +9,11 @@ use Rattle.whole.specs.Machine.{Reads, now, unsigned, arg, sub, kept, fits, pas
 use Rattle.holdings.specs.Holdings.{withTrade}
 use Rattle.accounts.specs.Accounts.{withHoldings}
 use Rattle.memory.specs.Memory.{Holds}
-use Rattle.model.specs.Book.{marginsOf}
+use Rattle.model.specs.Book.{Book, marginsOf}
 use Rattle.model.specs.Calls.{Trade}
 use Rattle.model.specs.Effects.{traded}
-use Rattle.standing.specs.Standing.{accountRow}
+use Rattle.standing.specs.StandingLaws.{sound-kept, sound-holds}
+use Rattle.standing.specs.Standing.{accountRow, view}
 use Rattle.standing.specs.DealLaws.{margins-sound, margins-are, buyer-lots, seller-lots}
 use Rattle.dealing.specs.Dealing.{tradeOf, Traded}
 use Rattle.dealing.specs.Parties.{Answers}
@@ -20,6 +21,9 @@ use Rattle.dealing.specs.TradedLaws.{refused-traded, accepted-traded}
 use Rattle.dealing.specs.DealsLaws.{moved, deals-long, row-k, row-below, account-in, account-sound, moved-is, answers, sides, stored, sides-writable, all-written}
 use Rattle.dealing.proofs.trades.trade_between.Statement.{statement}
 use Rattle.dealing.proofs.trades.trade_between.Tie as tie
+
+abbrev book : tie.Start → Book
+book s = view (s .args .counts .now) (s .args .money .now)
 
 abbrev deal : tie.Start → Trade
 deal s = tradeOf (s .args .t)
@@ -42,33 +46,33 @@ abbrev start : tie.After-load-margins → tie.Start
 start c = c .before .before .before .before .before .before .before .before .before .before .before
 
 bought : (c : tie.After-with-lots) → let s = start (c .before) in
-    c .with-lots .result ≡ accountRow (traded (s .pre .book) (deal s)) (s .args .t .buyer)
+    c .with-lots .result ≡ accountRow (traded (book s) (deal s)) (s .args .t .buyer)
 bought c =
     let s = start (c .before) in
     let loaded = c .before .before .before .before .before .before in
     c .with-lots .ensures
     ∙ ap₂ (λ l r. withHoldings (loaded .load-account .result) (withTrade (loaded .load-account .result .holdings) (s .args .k) l r))
     (lots s .eq) (rate s .eq)
-    ∙ moved-is (s .pre) (s .pre .ready .between .buyer) (loaded .load-account .ensures) (buyer-lots (s .pre .known) (s .pre .ready .between))
+    ∙ moved-is (s .pre) (s .pre .ready .between .buyer) (loaded .load-account .ensures) (buyer-lots (sound-kept (s .pre .sound)) (s .pre .ready .between))
 
 sold : (c : tie.After-with-lots2) → let s = start (c .before .before) in
-    c .with-lots2 .result ≡ accountRow (traded (s .pre .book) (deal s)) (s .args .t .seller)
+    c .with-lots2 .result ≡ accountRow (traded (book s) (deal s)) (s .args .t .seller)
 sold c =
     let s = start (c .before .before) in
     let loaded = c .before .before .before .before in
     c .with-lots2 .ensures
     ∙ ap₂ (λ l r. withHoldings (loaded .load-account2 .result) (withTrade (loaded .load-account2 .result .holdings) (s .args .k) l r))
     (less s .eq) (rate s .eq)
-    ∙ moved-is (s .pre) (s .pre .ready .between .seller) (loaded .load-account2 .ensures) (seller-lots (s .pre .known) (s .pre .ready .between))
+    ∙ moved-is (s .pre) (s .pre .ready .between .seller) (loaded .load-account2 .ensures) (seller-lots (sound-kept (s .pre .sound)) (s .pre .ready .between))
 
-margins : (c : tie.After-load-margins) → c .load-margins .result ≡ marginsOf (start c .pre .book)
-margins c = let d = start c .pre in c .load-margins .ensures ∙ margins-are (d .known) (d .ready .between .live) (d .holds)
+margins : (c : tie.After-load-margins) → c .load-margins .result ≡ marginsOf (book (start c))
+margins c = let d = start c .pre in c .load-margins .ensures ∙ margins-are (sound-kept (d .sound)) (d .ready .between .live) (sound-holds (d .sound))
 
 -- ---- what they answer
 abbrev judging : tie.After-judge → tie.After-load-margins
 judging c = c .before .before .before
 
-answer : (c : tie.After-judge) → let s = start (judging c) in Answers (s .pre .book) (deal s) (c .judge .result)
+answer : (c : tie.After-judge) → let s = start (judging c) in Answers (book s) (deal s) (c .judge .result)
 answer c =
     let m = judging c in
     let d = start m .pre in
@@ -136,7 +140,7 @@ judge-requires c κs =
       moved (s .args .k) buyer (passed (lots s)) (passed (rate s)) (c .before .with-lots .ensures),
       (
         moved (s .args .k) seller (passed (less s)) (passed (rate s)) (c .with-lots2 .ensures),
-        (row-k (s .pre), rw (margins m) (margins-sound (s .pre .known) (s .pre .ready .between .live))),
+        (row-k (s .pre), rw (margins m) (margins-sound (sound-kept (s .pre .sound)) (s .pre .ready .between .live))),
       ),
     )
 
@@ -158,7 +162,7 @@ returns c =
     let s = start (judging q) in
     let told = c .enum-told2 .given .1 in
     subst (λ r. Traded (s .args .counts .now) (s .args .money .now) (deal s) r (s .args .counts .now) (s .args .money .now)) (sym told)
-    (refused-traded (s .pre .known) (s .pre .holds) (subst (Answers (s .pre .book) (deal s)) told (answer q)))
+    (refused-traded (s .pre .sound) (subst (Answers (book s) (deal s)) told (answer q)))
 
 store-account-requires : tie.Need-store-account-requires
 store-account-requires c κs =
@@ -190,7 +194,7 @@ returns-2 c =
     let s = start-stored q in
     let told = first-stored q .before .before .before .enum-told .given .1 in
     subst (λ r. Traded (s .args .counts .now) (s .args .money .now) (deal s) r (w .write-trade .last .0) (w .write-trade .last .1 .0)) (sym told)
-    (accepted-traded (s .pre .known) (s .pre .holds) (subst (Answers (s .pre .book) (deal s)) told (answer (accepted (first-stored q))))
+    (accepted-traded (s .pre .sound) (subst (Answers (book s) (deal s)) told (answer (accepted (first-stored q))))
     (all-written (s .pre) (both q) (w .write-trade .ensures)))
 
 pub trade-between-spec : {M : Type 1} → statement M

@@ -105,11 +105,8 @@ returns-3 c =
 side-totals-requires : tie.Need-side-totals-requires
 side-totals-requires c κs =
     let i = c .before in
-    let s = start-i i in
-    let h = s .pre .0 in record {
-      book = book s;
-      known = sound-kept h;
-      holds = sound-holds h;
+    let s = start-i i in record {
+      sound = s .pre .0;
       live = live (before-k (before-i i));
       contract = contract (before-i i);
       side = side i;
