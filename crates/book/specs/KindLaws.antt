@@ -14,7 +14,7 @@ use Rattle.records.specs.Records.{entry}
 use Rattle.model.specs.Book.{Book}
 use Rattle.model.specs.Calls.{callOf}
 use Rattle.model.specs.Answers.{done, accepts}
-use Rattle.model.specs.RangeLaws.{Ranged}
+use Rattle.model.specs.Ranged.{Ranged}
 use Rattle.standing.specs.Made.{Sound}
 use Rattle.book.specs.declared.calls.Answer.the-variants.{Refused}
 use Rattle.book.specs.Called.{Called}

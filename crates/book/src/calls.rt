@@ -7,7 +7,7 @@ ghost use Rattle.records.specs.Records.{entry};
 ghost use Rattle.memory.specs.Memory.{Holds};
 ghost use Rattle.model.specs.Book.{new};
 ghost use Rattle.model.specs.Calls.{callOf};
-ghost use Rattle.model.specs.RangeLaws.{Ranged};
+ghost use Rattle.model.specs.Ranged.{Ranged};
 ghost use Rattle.standing.specs.Standing.{rowsOf};
 ghost use Rattle.standing.specs.Made.{Sound, Made};
 ghost use Rattle.book.specs.Called.{Called};

@@ -8,8 +8,8 @@ use native.Mathlib.Omega.{arith}
 use borrow.Author.Tests.{ltb-false, eqb-true, eqb-false, lt-ltb, le-ltb, le-leb, eq-eqb}
 use lib.Dec.{eqb, ltb}
 use lib.ListN.{length, length-map}
-use Rattle.lists.specs.Has.{has}
-use Rattle.lists.specs.HasLaws.{byTest, clash, or-right, or-skip, has-append, has-one, Distinct}
+use Rattle.lists.specs.Has.{has, Distinct}
+use Rattle.lists.specs.HasLaws.{byTest, clash, or-right, or-skip, has-append, has-one}
 use Rattle.lists.specs.Passing.{passing, all}
 use Rattle.lists.specs.Rows.{map-append}
 use Rattle.days.specs.declared.Day.{Day}

@@ -13,7 +13,7 @@ use Rattle.model.specs.Book.{Book}
 use Rattle.model.specs.Calls.{Trade, trade}
 use Rattle.model.specs.Refusals.{inHours}
 use Rattle.model.specs.Answers.{answered}
-use Rattle.model.specs.RangeLaws.{GoodTrade}
+use Rattle.model.specs.Ranged.{GoodTrade}
 use Rattle.model.specs.Kept.{Kept}
 use Rattle.standing.specs.Standing.{headerRow, rowsOf, view}
 use Rattle.standing.specs.Made.{Sound, decided}

@@ -10,7 +10,7 @@ use Rattle.memory.specs.declared.header_row.Header.{Header}
 use Rattle.memory.specs.declared.contract_rows.Contract.{Contract}
 use Rattle.memory.specs.Layout.{Long, withHeader, contractAt, withContractCounts, withContractMoney}
 use Rattle.model.specs.Calls.{Trade}
-use Rattle.model.specs.RangeLaws.{GoodTrade}
+use Rattle.model.specs.Ranged.{GoodTrade}
 use Rattle.standing.specs.DealLaws.{withTally}
 use Rattle.hours.specs.Clocked.{clocked}
 

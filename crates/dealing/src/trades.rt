@@ -1,5 +1,5 @@
 // Trades.
-ghost use Rattle.model.specs.RangeLaws.{GoodTrade};
+ghost use Rattle.model.specs.Ranged.{GoodTrade};
 ghost use Rattle.standing.specs.Made.{Sound};
 ghost use Rattle.dealing.specs.Dealing.{tradeOf, Traded};
 ghost use Rattle.dealing.specs.Parties.{Deals};

@@ -23,7 +23,8 @@ use Rattle.model.specs.Refusals.{sideTotals, refusal}
 use Rattle.model.specs.Answers as model
 use Rattle.model.specs.History.{runFrom, step, run, log, noted, atTrade}
 use Rattle.model.specs.StepLaws.{accepted-by}
-use Rattle.model.specs.RangeLaws.{Ranged, ranges}
+use Rattle.model.specs.Ranged.{Ranged}
+use Rattle.model.specs.RangeLaws.{ranges}
 use Rattle.model.specs.KeptLaws.{kept-new, known}
 use Rattle.standing.specs.Made.{Sound}
 use Rattle.standing.specs.Standing.{rowsOf, view}

@@ -33,7 +33,8 @@ use Rattle.model.specs.Answers.{called}
 use Rattle.model.specs.History.{runFrom, run, log, variationIn}
 use Rattle.model.specs.Promises.{worthAt}
 use Rattle.model.specs.StepLaws.{Passed, needed, accepted-by}
-use Rattle.model.specs.RangeLaws.{Ranged, ranges}
+use Rattle.model.specs.Ranged.{Ranged}
+use Rattle.model.specs.RangeLaws.{ranges}
 use Rattle.model.specs.RefusalLaws.{accepted-called}
 use Rattle.model.specs.ListedLaws.{settled-open}
 use Rattle.model.specs.TermLaws.{rate-fair}

@@ -27,7 +27,8 @@ use Rattle.model.specs.Answers.{called}
 use Rattle.model.specs.History.{Step, step, run, log, atTrade, atClose, Dated, dated, closedTrades, todaysTrades, isSideIn, ownTrades, dealFor, dealsOf, variationIn}
 use Rattle.model.specs.Promises.{worthAt, madeToday, carriedOver, amountOf}
 use Rattle.model.specs.StepLaws.{Passed, needed, accepted-by, induct}
-use Rattle.model.specs.RangeLaws.{GoodTrade, Ranged, ranges}
+use Rattle.model.specs.Ranged.{GoodTrade, Ranged}
+use Rattle.model.specs.RangeLaws.{ranges}
 use Rattle.model.specs.Kept.{Framed}
 use Rattle.model.specs.FrameLaws.{shut-closed}
 use Rattle.model.specs.VariationLaws.{before-is}

@@ -14,7 +14,8 @@ use Rattle.records.specs.ReadingLaws.{lies}
 use Rattle.memory.specs.Memory.{Holds}
 use Rattle.model.specs.Book.{new}
 use Rattle.model.specs.Calls.{callOf}
-use Rattle.model.specs.RangeLaws.{GoodTrade, ranges}
+use Rattle.model.specs.Ranged.{GoodTrade}
+use Rattle.model.specs.RangeLaws.{ranges}
 use Rattle.standing.specs.Standing.{rowsOf, view}
 use Rattle.dealing.specs.Dealing.{tradeOf}
 use Rattle.book.specs.declared.calls.Answer.{Answer}

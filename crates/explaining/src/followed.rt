@@ -3,7 +3,7 @@ ghost use Prim.Native.Nat.{_*_, _<_, _≤_};
 ghost use mathlib.Core.Path.{_≡_};
 ghost use mathlib.Core.Bool.{true};
 ghost use lib.ListN.{length};
-ghost use Rattle.model.specs.RangeLaws.{GoodTrade};
+ghost use Rattle.model.specs.Ranged.{GoodTrade};
 ghost use Rattle.standing.specs.Made.{Sound};
 ghost use Rattle.dealing.specs.Dealing.{tradeOf};
 ghost use Rattle.desk.specs.Follows.{Followable};

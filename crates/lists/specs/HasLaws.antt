@@ -5,7 +5,7 @@ use mathlib.Core.List.{List, [], _∷_, _++_}
 use Prim.Native.Nat.{ℕ}
 use borrow.Author.Tests.{eqb-true, eq-eqb}
 use lib.Dec.{eqb}
-use Rattle.lists.specs.Has.{has}
+use Rattle.lists.specs.Has.{has, Distinct}
 use Rattle.lists.specs.Those.{those}
 
 -- ---- a test and what it gives
@@ -105,10 +105,6 @@ those-all p [] h = refl
 those-all p (n ∷ ns) h = rw (h n (has-first n ns), those-all p ns (λ k e. h k (has-later k n ns e)))
 
 -- ---- no number twice
-abbrev pub Distinct : List ℕ → Type 0
-Distinct [] = Unit {0}
-Distinct (k ∷ ks) = (has k ks ≡ false) × Distinct ks
-
 pub distinct-more : (ks : List ℕ) (m : ℕ) → has m ks ≡ false → Distinct ks → Distinct (ks ++ (m ∷ []))
 unfolding has
 distinct-more [] m h d = (refl, tt)

@@ -8,8 +8,8 @@ use borrow.Author.Tests.{eq-eqb, ne-eqb}
 use lib.Dec.{eqb}
 use lib.ListN.{length, getD, set}
 use Rattle.lists.specs.declared.Found.the-variants.{At, Nothing}
-use Rattle.lists.specs.Has.{has}
-use Rattle.lists.specs.HasLaws.{when-true, when-false, neither, or-right, eqb-flip, has-apart, Distinct}
+use Rattle.lists.specs.Has.{has, Distinct}
+use Rattle.lists.specs.HasLaws.{when-true, when-false, neither, or-right, eqb-flip, has-apart}
 use Rattle.lists.specs.Seek.{seek, seek-below, seek-hits, seek-misses}
 
 -- ---- a list has what stands in it, and nothing else

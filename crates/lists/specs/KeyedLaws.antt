@@ -7,8 +7,8 @@ use native.Mathlib.Omega.{arith}
 use borrow.Author.Tests.{eq-eqb, eqb-true}
 use lib.Dec.{eqb}
 use lib.ListN.{length, getD, set, replicate, length-map, replicate-append-replicate}
-use Rattle.lists.specs.Has.{has}
-use Rattle.lists.specs.HasLaws.{byTest, when-true, when-false, or-right, Distinct}
+use Rattle.lists.specs.Has.{has, Distinct}
+use Rattle.lists.specs.HasLaws.{byTest, when-true, when-false, or-right}
 use Rattle.lists.specs.Keyed.{map-changed}
 use Rattle.lists.specs.Padded.{padded}
 use Rattle.lists.specs.Rows.{getD-map-below}

@@ -9,8 +9,8 @@ use borrow.Author.Tests.{ltb-true, not-true}
 use lib.Dec.{eqb}
 use lib.IntN.{ℤ, pos}
 use lib.ListN.{length, length-append}
-use Rattle.lists.specs.Has.{has}
-use Rattle.lists.specs.HasLaws.{byTest, clash, or-skip, Distinct}
+use Rattle.lists.specs.Has.{has, Distinct}
+use Rattle.lists.specs.HasLaws.{byTest, clash, or-skip}
 use Rattle.lists.specs.Keep.{cond-keeps}
 use Rattle.whole.specs.Within.{Within, wider, lit}
 use Rattle.whole.specs.Sizes.{sizes}
@@ -37,7 +37,7 @@ use Rattle.model.specs.StepLaws.{Passed, needed}
 use Rattle.model.specs.FrameLaws.{shut-closed, unstarted-shut}
 use Rattle.model.specs.ListedLaws.{settled-open, open-closed, fresh-closed, open-later, listed-once, listed-six}
 use Rattle.model.specs.HouseLaws.{in-due, out-due, release-due}
-use Rattle.model.specs.RangeLaws.{GoodSettings, GoodOpening, GoodTrade, Ranged}
+use Rattle.model.specs.Ranged.{GoodSettings, GoodOpening, GoodTrade, Ranged}
 use Rattle.model.specs.DueLaws.{funded-later, funded-new, funded-paid, funded-settled, funded-closed}
 use Rattle.model.specs.CostLaws.{untraded, dealt-new, dealt-more}
 use Rattle.model.specs.TermLaws.{fair-none, tallied-new, opened-fair, closed-fair, tallied-traded, tallied-quoted}

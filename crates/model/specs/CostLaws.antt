@@ -8,7 +8,8 @@ use native.Mathlib.Omega.{arith}
 use borrow.Author.Tests.{eqb-true, ltb-false}
 use lib.Dec.{eqb}
 use lib.IntN.{ℤ, pos, natAbs, negℤ, _+ℤ_, _-ℤ_, +ℤ-invr}
-use Rattle.lists.specs.HasLaws.{byTest, Distinct}
+use Rattle.lists.specs.Has.{Distinct}
+use Rattle.lists.specs.HasLaws.{byTest}
 use Rattle.lists.specs.Keep.{cond-keeps}
 use Rattle.whole.specs.Parts.{parts₃, ring, zarith}
 use Rattle.whole.specs.Within.{Within, natAbs-neg-pos, lit, within-+, within-*}
@@ -20,7 +21,7 @@ use Rattle.model.specs.Calls.{Trade}
 use Rattle.model.specs.Effects.{lotsFor}
 use Rattle.model.specs.FrameLaws.{bystander-still}
 use Rattle.model.specs.NaturalLaws.{totalOver, total-more, total-each, total-last, total-sizes-of, onlyAt, total-only}
-use Rattle.model.specs.RangeLaws.{GoodTrade}
+use Rattle.model.specs.Ranged.{GoodTrade}
 use Rattle.model.specs.Kept.{Dealt}
 
 -- ---- sums over accounts and codes of a position's number

@@ -1,7 +1,6 @@
 -- The house has what is due to the accounts, whatever is called: what a close books it owes, and what a settlement pays it owes no more.
 use mathlib.Core.Path.{_≡_, refl, sym, _∙_, ap}
 use mathlib.Core.Bool.{false}
-use mathlib.Core.List.{[]}
 use Prim.Native.Nat.{ℕ}
 use borrow.Author.Tests.{eqb-true, not-true}
 use lib.Dec.{eqb}
@@ -23,7 +22,7 @@ use Rattle.model.specs.Effects.{paidTo, markOf, dayEndOf, closedAt, afte
 use Rattle.model.specs.Refusals.{tests}
 use Rattle.model.specs.History.{variationIn}
 use Rattle.model.specs.Kept.{Framed, LevelIn, Owing}
-use Rattle.model.specs.SumLaws.{Total, total-none, total-ext, total-add, total-sub, total-more, total-over}
+use Rattle.model.specs.SumLaws.{Total, total-ext, total-add, total-sub, total-more, total-over}
 use Rattle.model.specs.StepLaws.{Passed, needed}
 use Rattle.model.specs.LevelLaws.{level-variation}
 
@@ -90,28 +89,39 @@ module _ {b : Book} (i : Framed b) (n : ℕ) where
       (λ e. rw (e, strange-paid e) (sym (+ℤ-idr (b .accounts .funds n .due))))
 
 -- what a close books sums to zero over the accounts
-pub variations-cancel : (b : Book) → ((c : ℕ) → LevelIn c b) → (final : ℤ)
+pub variations-cancel : (b : Book) → Framed b → ((c : ℕ) → LevelIn c b) → (final : ℤ)
     → Total (b .accounts .members) (λ n. sumOver (variationIn b final n) (b .contracts .codes)) (pos 0)
-variations-cancel b z final = total-over (variationIn b final) (b .contracts .codes) (λ c. level-variation (markOf b final c) (z c))
+variations-cancel b d z final = total-over (variationIn b final) (b .contracts .codes) (λ c. level-variation d c (z c) (markOf b final c))
 
 -- ---- a new book, and all calls
 pub owing-new : Owing new
-unfolding new funds.newFunds
-owing-new = total-none []
+unfolding new sumZ
+owing-new = refl
+
+-- what is due to all account numbers, where nothing is to who is no member
+abbrev Dues : Book → Type 0
+Dues b = Total (b .accounts .members) (λ n. b .accounts .funds n .due) (b .house)
+
+dues : {b : Book} → Framed b → Owing b → Dues b
+unfolding funds.newFunds
+dues d i = record { away = λ n h. ap (λ (f : Funds). f .due) (d .strangers n h .1); sums = sym i }
+
+dues-after : (b : Book) (x : Call) → Framed b → ((c : ℕ) → LevelIn c b) → Passed (tests b x) → Dues b → Dues (after b x)
+unfolding after
+dues-after b (start s) d z p i = i
+dues-after b (enrol n x) d z p i = total-more n (not-true (isMember b n) (needed 6 tt (p .1 .0))) i
+dues-after b (payIn n x) d z p i = total-ext i (replaced-same (λ f. f .due) (b .accounts .funds) n _ (in-due (b .accounts .funds n) x)) refl
+dues-after b (payOut n x) d z p i = total-ext i (replaced-same (λ f. f .due) (b .accounts .funds) n _ (out-due (b .accounts .funds n) x)) refl
+dues-after b (release n x) d z p i = total-ext i (replaced-same (λ f. f .due) (b .accounts .funds) n _ (release-due (b .accounts .funds n) x)) refl
+dues-after b (setSpecial n x) d z p i = i
+dues-after b (setLimits n x) d z p i = i
+dues-after b (opening o) d z p i = i
+dues-after b (trade t) d z p i = i
+dues-after b (quote q) d z p i = i
+dues-after b settle d z p i = total-ext (total-sub i (record { away = strange-paid d; sums = refl })) (settle-due d) refl
+dues-after b refresh d z p i = i
+dues-after b (close final) d z p i = total-ext (total-add i (variations-cancel b d z final)) (λ n. close-due d n final) (sym (+ℤ-idr (b .house)))
+dues-after b unknown d z p i = i
 
 pub owing-after : (b : Book) (x : Call) → Framed b → ((c : ℕ) → LevelIn c b) → Passed (tests b x) → Owing b → Owing (after b x)
-unfolding after
-owing-after b (start s) d z p i = i
-owing-after b (enrol n x) d z p i = total-more n (not-true (isMember b n) (needed 6 tt (p .1 .0))) i
-owing-after b (payIn n x) d z p i = total-ext i (replaced-same (λ f. f .due) (b .accounts .funds) n _ (in-due (b .accounts .funds n) x)) refl
-owing-after b (payOut n x) d z p i = total-ext i (replaced-same (λ f. f .due) (b .accounts .funds) n _ (out-due (b .accounts .funds n) x)) refl
-owing-after b (release n x) d z p i = total-ext i (replaced-same (λ f. f .due) (b .accounts .funds) n _ (release-due (b .accounts .funds n) x)) refl
-owing-after b (setSpecial n x) d z p i = i
-owing-after b (setLimits n x) d z p i = i
-owing-after b (opening o) d z p i = i
-owing-after b (trade t) d z p i = i
-owing-after b (quote q) d z p i = i
-owing-after b settle d z p i = total-ext (total-sub i (record { away = strange-paid d; sums = refl })) (settle-due d) refl
-owing-after b refresh d z p i = i
-owing-after b (close final) d z p i = total-ext (total-add i (variations-cancel b z final)) (λ n. close-due d n final) (sym (+ℤ-idr (b .house)))
-owing-after b unknown d z p i = i
+owing-after b x d z p i = sym (dues-after b x d z p (dues d i) .sums)

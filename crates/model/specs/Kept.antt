@@ -6,15 +6,16 @@ use mathlib.Core.List.{List, [], map}
 use Prim.Native.Nat.{ℕ, _*_, _≤_, _<_}
 use lib.IntN.{pos, _-ℤ_}
 use lib.ListN.{length}
-use Rattle.lists.specs.Has.{has}
-use Rattle.lists.specs.HasLaws.{Distinct}
+use Rattle.lists.specs.Has.{has, Distinct}
 use Rattle.lists.specs.Those.{those}
 use Rattle.whole.specs.Within.{Within}
 use Rattle.whole.specs.Sizes.{sizes}
+use Rattle.whole.specs.Over.{sumOver}
 use Rattle.days.specs.Days.{isOn, isWorking, accepted}
 use Rattle.months.specs.Months.{lastTradingOf}
 use Rattle.calendar.specs.Listing.{listing}
 use Rattle.tallies.specs.Bounds as tallies
+use Rattle.tallies.specs.Means.{total}
 use Rattle.positions.specs.Deals.{flat, overnight}
 use Rattle.positions.specs.Bounds.{costs}
 use Rattle.positions.specs.declared.Position.{Position}
@@ -24,9 +25,7 @@ use Rattle.funds.specs.declared.Funds.{Funds}
 use Rattle.model.specs.Book.{Book, Point, unstarted, unopened, unsettled, settledToday, ended, Today, Contracts, noTerms, noTally, noSettled, noHeld, isMember, isListed, working}
 use Rattle.model.specs.Refusals.{isStarted, isOpen, isSettled}
 use Rattle.model.specs.Bounds.{closedDays, allBooked, Modest, Fair}
-use Rattle.model.specs.SumLaws.{Total}
-use Rattle.model.specs.NaturalLaws.{totalOver}
-use Rattle.model.specs.RangeLaws.{GoodSettings}
+use Rattle.model.specs.Ranged.{GoodSettings}
 
 -- ---- one state has one form: what is not enrolled or not listed reads as zero, and nothing of a day is left once it is closed
 pub record Framed (b : Book) : Type 0 where
@@ -64,10 +63,11 @@ pub record ListedAt (w : ℕ → Bool) (p : Point) (day : ℕ) (codes : List ℕ
 abbrev pub Listed : Book → Type 0
 Listed b = ListedAt (working b) (b .today .point) (b .today .day) (b .contracts .codes)
 
--- ---- how large its numbers are, part by part, each by what it depends on
+-- ---- how large its numbers are, by 'Units and ceilings', part by part, each by what it depends on
 abbrev pub daysOf : Today → ℕ
 daysOf t = closedDays (t .point) (t .day)
 
+-- "day | 0 | 3,652", "trades in a day .. | 0 | 10,000"
 pub record Timely (t : Today) : Type 0 where
   pub day : t .day ≤ 3652
   pub trades : t .trades ≤ 10000
@@ -78,13 +78,14 @@ pub record Tallied (trades : ℕ) (c : Contracts) : Type 0 where
   pub tallies : (k : ℕ) → tallies.Sound (c .tally k)
   pub few : (k : ℕ) → c .tally k .trades ≤ trades
 
--- each account's own costs are those of one side of a trade; the sums over accounts are those of both sides
+-- "net lots, account and contract | -20,000 | 20,000". Each account's own costs are those of one side of a trade; the sums over accounts are those
+-- of both sides
 pub record Dealt (trades : ℕ) (codes members : List ℕ) (position : ℕ → ℕ → Position) : Type 0 where
   pub nets : (n c : ℕ) → Within 20000 (position n c .net)
   pub befores : (n c : ℕ) → Within 20000 (position n c .before)
   pub own : (n : ℕ) → costs (map (position n) codes) ≤ trades * 100000000
-  pub costs : totalOver (λ n. costs (map (position n) codes)) members ≤ 2 * trades * 100000000
-  pub lots : totalOver (λ n. sizes (map (λ p. p .net -ℤ p .before) (map (position n) codes))) members ≤ 2 * trades * 1000
+  pub costs : total (map (λ n. costs (map (position n) codes)) members) ≤ 2 * trades * 100000000
+  pub lots : total (map (λ n. sizes (map (λ p. p .net -ℤ p .before) (map (position n) codes))) members) ≤ 2 * trades * 1000
 
 -- from a close to the next settlement each account is billed
 pub record Funded (t : Today) (members : List ℕ) (money : ℕ → Funds) : Type 0 where
@@ -92,6 +93,7 @@ pub record Funded (t : Today) (members : List ℕ) (money : ℕ → Funds) : Typ
   pub billed : isSettled (t .point) ≡ false → (n : ℕ) → funds.Billed (money n)
   pub dues : sizes (map (λ n. money n .due) members) ≤ daysOf t * allBooked
 
+-- "accounts in a book | 0 | 64"
 pub record Sized (b : Book) : Type 0 where
   pub today : Timely (b .today)
   pub settings : GoodSettings (b .settings)
@@ -101,18 +103,19 @@ pub record Sized (b : Book) : Type 0 where
   pub dealt : Dealt (b .today .trades) (b .contracts .codes) (b .accounts .members) (b .accounts .position)
   pub funded : Funded (b .today) (b .accounts .members) (b .accounts .funds)
 
--- ---- in each contract positions sum to zero over the accounts: lots, lots before today, and what today's trades cost
+-- ---- demand 3: "per contract, lots and variation sum to zero over accounts". Lots, lots before today and what today's trades cost, of which a close
+-- reckons the variation
 pub record Level (ms : List ℕ) (p : ℕ → Position) : Type 0 where
-  pub before : Total ms (λ n. p n .before) (pos 0)
-  pub net : Total ms (λ n. p n .net) (pos 0)
-  pub cost : Total ms (λ n. p n .cost) (pos 0)
+  pub before : sumOver (λ n. p n .before) ms ≡ pos 0
+  pub net : sumOver (λ n. p n .net) ms ≡ pos 0
+  pub cost : sumOver (λ n. p n .cost) ms ≡ pos 0
 
 abbrev pub LevelIn : ℕ → Book → Type 0
 LevelIn c b = Level (b .accounts .members) (λ n. b .accounts .position n c)
 
--- ---- the house has what is due to the accounts, and no more
+-- ---- demand 3: "the house account equals the variation not yet paid"
 abbrev pub Owing : Book → Type 0
-Owing b = Total (b .accounts .members) (λ n. b .accounts .funds n .due) (b .house)
+Owing b = b .house ≡ sumOver (λ n. b .accounts .funds n .due) (b .accounts .members)
 
 -- ---- its calendar is not refused: "A calendar with more than 14 days off running is refused." Before the start it has no exceptions
 pub record CalendarAt (p : Point) (exceptions : List ℕ) : Type 0 where

@@ -1,11 +1,10 @@
 -- What is known of a book is kept by every call, refused or not, whatever its past; and what follows from it.
-use mathlib.Core.Path.{_≡_, refl, sym}
+use mathlib.Core.Path.{_≡_, refl}
 use mathlib.Core.Bool.{true}
 use mathlib.Core.List.{List, [], _∷_}
 use Prim.Native.Nat.{ℕ, zero, suc, _≤_}
 use lib.ListN.{length}
-use Rattle.lists.specs.HasLaws.{Distinct}
-use Rattle.whole.specs.Over.{sumOver}
+use Rattle.lists.specs.Has.{Distinct}
 use Rattle.records.specs.Records.{Entry}
 use Rattle.model.specs.Book.{Book, new}
 use Rattle.model.specs.Calls.{callOf}
@@ -48,7 +47,7 @@ kept-after {b} e a k =
       framed = framed-after b c p (k .framed);
       listed = listed-after b c p (k .listed);
       sized = sized-after b (k .framed) (k .listed) c r p (k .sized);
-      level = λ x. level-after x b c (k .framed .once) p (k .level x);
+      level = λ x. level-after x b c (k .framed) p (k .level x);
       owing = owing-after b c (k .framed) (k .level) p (k .owing);
       calendar = calendar-after b c p (k .calendar);
       keys = keys-after b c r (k .listed) (k .keys);
@@ -82,10 +81,6 @@ module _ {b : Book} (k : Kept b) where
   pub kept-six : isOpen (b .today .point) ≡ true → length (b .contracts .codes) ≡ 6
   kept-six = listed-six b (k .listed)
 
-  -- "the house account equals the variation not yet paid"
-  pub kept-owes : b .house ≡ sumOver (λ n. b .accounts .funds n .due) (b .accounts .members)
-  kept-owes = sym (k .owing .sums)
-
   -- promise 7
   pub kept-bounded : Bounded b
-  kept-bounded = sized-bounded (k .sized) kept-few kept-owes
+  kept-bounded = sized-bounded (k .sized) kept-few (k .owing)

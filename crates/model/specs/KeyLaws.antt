@@ -11,7 +11,7 @@ use Rattle.model.specs.Book.{Book, new}
 use Rattle.model.specs.Calls.{Call, start, enrol, payIn, payOut, release, setSpecial, setLimits, opening, trade, quote, settle, refresh, close, unknown}
 use Rattle.model.specs.Effects.{after}
 use Rattle.model.specs.Kept.{Listed, Keyed}
-use Rattle.model.specs.RangeLaws.{Ranged}
+use Rattle.model.specs.Ranged.{Ranged}
 use Rattle.model.specs.ListedLaws.{listed-few, listed-below}
 
 pub keys-new : Keyed new

@@ -6,6 +6,8 @@ pub mod Answers
 pub mod History
 pub mod Bounds
 pub mod Promises
+pub mod Ranged
+pub mod Kept
 pub mod Entries
 pub mod Examples
 pub mod SumLaws
@@ -13,7 +15,6 @@ pub mod StepLaws
 pub mod RefusalLaws
 pub mod RangeLaws
 pub mod NaturalLaws
-pub mod Kept
 pub mod FrameLaws
 pub mod ListedLaws
 pub mod EndLaws

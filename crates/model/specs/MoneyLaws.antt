@@ -6,8 +6,8 @@ use Prim.Native.Nat.{ℕ}
 use borrow.Author.Tests.{eqb-true, not-true}
 use lib.Dec.{eqb}
 use lib.IntN.{ℤ, pos, negℤ, _+ℤ_, _-ℤ_, +ℤ-idr}
-use Rattle.lists.specs.Has.{has}
-use Rattle.lists.specs.HasLaws.{byTest, when-true, when-false, Distinct}
+use Rattle.lists.specs.Has.{has, Distinct}
+use Rattle.lists.specs.HasLaws.{byTest, when-true, when-false}
 use Rattle.lists.specs.Tabulate.{tab}
 use Rattle.whole.specs.Parts.{parts₃, ring, zarith}
 use Rattle.whole.specs.Sums.{sumZ}
@@ -29,7 +29,7 @@ use Rattle.model.specs.SumLaws.{only, Total, total-none, total-ext, tota
 use Rattle.model.specs.StepLaws.{Passed, needed, induct}
 use Rattle.model.specs.ListedLaws.{listed-below}
 use Rattle.model.specs.HouseLaws.{in-due, out-due, release-due, replaced-same, grows, close-due, settle-due, variations-cancel}
-use Rattle.model.specs.KeptLaws.{known, kept-once, kept-owes}
+use Rattle.model.specs.KeptLaws.{known, kept-once}
 use Rattle.model.specs.TableLaws.{tab-none, tab-add, tab-over}
 
 -- x added before y is taken, or after
@@ -93,7 +93,7 @@ money-more b l (quote q) k p i = i
 money-more b l settle k p i = total-ext i (settle-worth (k .framed)) refl
 money-more b l refresh k p i = i
 money-more b l (close final) k p i =
-    total-ext (total-add i (variations-cancel b (k .level) final)) (λ n. close-worth (k .framed) n final) (sym (+ℤ-idr (paidIn l -ℤ paidOut l)))
+    total-ext (total-add i (variations-cancel b (k .framed) (k .level) final)) (λ n. close-worth (k .framed) n final) (sym (+ℤ-idr (paidIn l -ℤ paidOut l)))
 money-more b l unknown k p i = i
 
 money : (h : List Entry) → MoneyIn (run h) (log h)
@@ -152,7 +152,7 @@ booked-more n b l unknown k i = i
 
 -- ---- promise 3
 pub house-owes : (h : List Entry) → run h .house ≡ sumOver (λ n. run h .accounts .funds n .due) (run h .accounts .members)
-house-owes h = kept-owes (known h)
+house-owes h = known h .owing
 
 pub money-stays : (h : List Entry)
     → sumOver (λ n. run h .accounts .funds n .cash +ℤ run h .accounts .funds n .margin) (run h .accounts .members) +ℤ run h .house

@@ -8,8 +8,8 @@ use borrow.Author.Tests.{eqb-true}
 use lib.Dec.{eqb}
 use lib.IntN.{ℤ, natAbs}
 use lib.ListN.{length}
-use Rattle.lists.specs.Has.{has}
-use Rattle.lists.specs.HasLaws.{byTest, when-true, when-false, neither, eqb-flip, Distinct}
+use Rattle.lists.specs.Has.{has, Distinct}
+use Rattle.lists.specs.HasLaws.{byTest, when-true, when-false, neither, eqb-flip}
 use Rattle.whole.specs.Sizes.{sizes}
 use Rattle.tallies.specs.Means.{total}
 

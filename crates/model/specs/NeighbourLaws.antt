@@ -21,7 +21,7 @@ use Rattle.model.specs.Neighbours.{AlikeButCash, moneyOf, withCash, with
 use Rattle.model.specs.RefusalLaws.{accepted-called}
 use Rattle.model.specs.SumLaws.{only, over-away, over-only}
 use Rattle.model.specs.Kept.{Framed, Kept}
-use Rattle.model.specs.KeptLaws.{kept-called, kept-owes}
+use Rattle.model.specs.KeptLaws.{kept-called}
 
 -- ---- what the definition says of every other account
 others-same : (k : ℕ) (a b : Book) → AlikeButMoney k a b → (n : ℕ) → eqb n k ≡ false → accountOf a n ≡ accountOf b n
@@ -151,7 +151,7 @@ unfolding funds.newFunds
 houses-apart k {a} {b} i j same =
     let ms = a .accounts .members in
     let one = ap (λ c. c .accounts .members) same in
-    ap₂ _-ℤ_ (kept-owes i) (kept-owes j ∙ ap (sumOver (dueTo b)) (sym one))
+    ap₂ _-ℤ_ (i .owing) (j .owing ∙ ap (sumOver (dueTo b)) (sym one))
     ∙ sym (over-sub (dueTo a) (dueTo b) ms)
     ∙ over-ext _ _ ms (due-apart k a b same)
     ∙ byTest (has k ms)

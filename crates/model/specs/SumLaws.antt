@@ -6,8 +6,8 @@ use Prim.Native.Nat.{ℕ}
 use borrow.Author.Tests.{eqb-true, eq-eqb}
 use lib.Dec.{eqb}
 use lib.IntN.{ℤ, pos, _+ℤ_, _-ℤ_, _*ℤ_, *ℤ-zero, +ℤ-idl, +ℤ-idr}
-use Rattle.lists.specs.Has.{has}
-use Rattle.lists.specs.HasLaws.{byTest, clash, when-true, when-false, neither, or-right, or-skip, eqb-flip, has-append, has-apart, Distinct}
+use Rattle.lists.specs.Has.{has, Distinct}
+use Rattle.lists.specs.HasLaws.{byTest, clash, when-true, when-false, neither, or-right, or-skip, eqb-flip, has-append, has-apart}
 use Rattle.lists.specs.Those.{those}
 use Rattle.whole.specs.Sums.{sumZ}
 use Rattle.whole.specs.Over.{sumOver, over-last, over-ext, over-add, over-sub, over-scale, over-none}

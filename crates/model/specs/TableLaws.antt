@@ -7,8 +7,8 @@ use native.Mathlib.Omega.{arith}
 use borrow.Author.Tests.{eqb-true, eqb-false, eq-eqb}
 use lib.Dec.{eqb}
 use lib.IntN.{ℤ, pos, _+ℤ_, +ℤ-idl, +ℤ-idr}
-use Rattle.lists.specs.Has.{has}
-use Rattle.lists.specs.HasLaws.{byTest, when-true, when-false, or-right, Distinct}
+use Rattle.lists.specs.Has.{has, Distinct}
+use Rattle.lists.specs.HasLaws.{byTest, when-true, when-false, or-right}
 use Rattle.lists.specs.Tabulate.{tab, tab-same}
 use Rattle.whole.specs.Sums.{sumZ, sum-last}
 use Rattle.whole.specs.Over.{add-crossed, sumOver}

@@ -21,7 +21,7 @@ use Rattle.model.specs.Book.{Book, Terms, noTerms, noTally, Contracts, i
 use Rattle.model.specs.Calls.{Trade, Quote, Opening}
 use Rattle.model.specs.Effects.{termsAfter, settledAt, codesLeft, termsLeft}
 use Rattle.model.specs.Bounds.{Fair}
-use Rattle.model.specs.RangeLaws.{GoodOpening, GoodTrade}
+use Rattle.model.specs.Ranged.{GoodOpening, GoodTrade}
 use Rattle.model.specs.Kept.{Tallied}
 
 pub fair-none : Fair noTerms

@@ -11,7 +11,7 @@ use Rattle.model.specs.Calls.{Call, start, enrol, payIn, payOut, release
 use Rattle.model.specs.Effects.{markOf, after}
 use Rattle.model.specs.Refusals.{tests}
 use Rattle.model.specs.History.{Step, step, run, log, booked}
-use Rattle.model.specs.Kept.{LevelIn}
+use Rattle.model.specs.Kept.{Kept}
 use Rattle.model.specs.SumLaws.{Total, total-none, total-add, total-more}
 use Rattle.model.specs.StepLaws.{Passed, needed, induct}
 use Rattle.model.specs.LevelLaws.{level-variation}
@@ -25,26 +25,26 @@ begins : (c : ℕ) → BookedIn c new []
 unfolding new booked
 begins c = total-none []
 
-more : (c : ℕ) (b : Book) (l : List Step) (x : Call) → LevelIn c b → Passed (tests b x) → BookedIn c b l → BookedIn c (after b x) (step b x ∷ l)
+more : (c : ℕ) (b : Book) (l : List Step) (x : Call) → Kept b → Passed (tests b x) → BookedIn c b l → BookedIn c (after b x) (step b x ∷ l)
 unfolding after booked
-more c b l (start s) z p i = i
-more c b l (enrol n x) z p i = total-more n (not-true (isMember b n) (needed 6 tt (p .1 .0))) i
-more c b l (payIn n x) z p i = i
-more c b l (payOut n x) z p i = i
-more c b l (release n x) z p i = i
-more c b l (setSpecial n x) z p i = i
-more c b l (setLimits n x) z p i = i
-more c b l (opening o) z p i = i
-more c b l (trade t) z p i = i
-more c b l (quote q) z p i = i
-more c b l settle z p i = i
-more c b l refresh z p i = i
-more c b l (close final) z p i = total-add i (level-variation (markOf b final c) z)
-more c b l unknown z p i = i
+more c b l (start s) k p i = i
+more c b l (enrol n x) k p i = total-more n (not-true (isMember b n) (needed 6 tt (p .1 .0))) i
+more c b l (payIn n x) k p i = i
+more c b l (payOut n x) k p i = i
+more c b l (release n x) k p i = i
+more c b l (setSpecial n x) k p i = i
+more c b l (setLimits n x) k p i = i
+more c b l (opening o) k p i = i
+more c b l (trade t) k p i = i
+more c b l (quote q) k p i = i
+more c b l settle k p i = i
+more c b l refresh k p i = i
+more c b l (close final) k p i = total-add i (level-variation (k .framed) c (k .level c) (markOf b final c))
+more c b l unknown k p i = i
 
 -- ---- promise 2
 pub lots-cancel : (h : List Entry) (c : ℕ) → sumOver (λ n. run h .accounts .position n c .net) (run h .accounts .members) ≡ pos 0
-lots-cancel h c = known h .level c .net .sums
+lots-cancel h c = known h .level c .net
 
 pub variation-cancels : (h : List Entry) (c : ℕ) → sumOver (λ n. booked n c (log h)) (run h .accounts .members) ≡ pos 0
-variation-cancels h c = induct (BookedIn c) (begins c) (λ g e a i. more c (run g) (log g) (callOf e) (known g .level c) (a .passed) i) h .sums
+variation-cancels h c = induct (BookedIn c) (begins c) (λ g e a i. more c (run g) (log g) (callOf e) (known g) (a .passed) i) h .sums

@@ -29,7 +29,7 @@ use Rattle.memory.specs.Layout.{Long, headerAt, accountAt, marginAt}
 use Rattle.model.specs.Book.{Book, holding, positionsOf, holdingsOf, marginsOf, isMember, isListed}
 use Rattle.model.specs.Calls.{Trade}
 use Rattle.model.specs.Effects.{lotsFor, traded}
-use Rattle.model.specs.RangeLaws.{GoodTrade}
+use Rattle.model.specs.Ranged.{GoodTrade}
 use Rattle.model.specs.Refusals.{isOpen, sideTotals}
 use Rattle.model.specs.Kept.{Kept}
 use Rattle.model.specs.KeptLaws.{kept-once, kept-six, kept-few}

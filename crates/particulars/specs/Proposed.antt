@@ -5,7 +5,7 @@ use mathlib.Core.List.{List}
 use Prim.Native.Nat.{ℕ}
 use lib.IntN.{ℤ}
 use Rattle.model.specs.Calls.{Trade}
-use Rattle.model.specs.RangeLaws.{GoodTrade}
+use Rattle.model.specs.Ranged.{GoodTrade}
 use Rattle.model.specs.Refusals.{isOpen}
 use Rattle.standing.specs.Standing.{view}
 use Rattle.standing.specs.Made.{Sound}

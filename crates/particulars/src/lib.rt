@@ -5,7 +5,7 @@ mod proposed;
 mod required;
 
 ghost use mathlib.Core.Path.{_≡_};
-ghost use Rattle.model.specs.RangeLaws.{GoodTrade};
+ghost use Rattle.model.specs.Ranged.{GoodTrade};
 ghost use Rattle.dealing.specs.Dealing.{tradeOf};
 ghost use Rattle.standing.specs.Standing.{view};
 ghost use Rattle.standing.specs.Made.{Sound};

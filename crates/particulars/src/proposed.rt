@@ -1,7 +1,7 @@
 // The totals that a trade would give one of its sides, whether or not it would be accepted.
 ghost use mathlib.Core.Path.{_≡_};
 ghost use Rattle.model.specs.Effects.{lotsFor};
-ghost use Rattle.model.specs.RangeLaws.{GoodTrade};
+ghost use Rattle.model.specs.Ranged.{GoodTrade};
 ghost use Rattle.model.specs.Refusals.{sideTotals};
 ghost use Rattle.dealing.specs.Dealing.{tradeOf};
 ghost use Rattle.standing.specs.Standing.{view};

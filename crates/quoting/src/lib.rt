@@ -3,7 +3,7 @@ ghost use mathlib.Core.Path.{_≡_};
 ghost use Prim.Native.Nat.{_<_};
 ghost use lib.ListN.{length};
 ghost use Rattle.model.specs.Calls.{quote as quoteCall};
-ghost use Rattle.model.specs.RangeLaws.{GoodQuote};
+ghost use Rattle.model.specs.Ranged.{GoodQuote};
 ghost use Rattle.standing.specs.Made.{Sound, Made};
 ghost use Rattle.quoting.specs.Quotes.{hasRoom};
 use hours::in_hours;

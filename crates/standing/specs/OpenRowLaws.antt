@@ -10,8 +10,8 @@ use lib.IntN.{ℤ, pos}
 use lib.ListN.{length, getD, length-map}
 use Rattle.lists.specs.declared.Found.{Found}
 use Rattle.lists.specs.declared.Found.the-variants.{At, Nothing}
-use Rattle.lists.specs.Has.{has, placeOf}
-use Rattle.lists.specs.HasLaws.{byTest, clash, when-true, when-false, eqb-flip, has-apart, Distinct}
+use Rattle.lists.specs.Has.{has, placeOf, Distinct}
+use Rattle.lists.specs.HasLaws.{byTest, clash, when-true, when-false, eqb-flip, has-apart}
 use Rattle.lists.specs.Keyed.{has-at, found-at, found-none}
 use Rattle.lists.specs.KeyedLaws.{table-at}
 use Rattle.lists.specs.Padded.{padded}

@@ -4,7 +4,8 @@ use borrow.Author.Needs.{needs}
 use Rattle.ranges.specs.Ranges.{refusalOf}
 use Rattle.records.specs.Records.{entry}
 use Rattle.model.specs.Refusals.{ranged}
-use Rattle.model.specs.RangeLaws.{Ranged, ranges}
+use Rattle.model.specs.Ranged.{Ranged}
+use Rattle.model.specs.RangeLaws.{ranges}
 use Rattle.book.specs.declared.calls.Answer.the-variants.{Done}
 use Rattle.book.specs.CalledLaws.{made-answered, answered-called}
 use Rattle.book.specs.KindLaws.{first-done, later-same, checked-refused}
