@@ -25,9 +25,9 @@ use Rattle.model.specs.Calls.{Trade}
 use Rattle.model.specs.Effects.{lotsFor, traded}
 use Rattle.model.specs.KeptLaws.{kept-few}
 use Rattle.model.specs.Kept.{Kept}
-use Rattle.standing.specs.SoundLaws.{sound-shaped, sound-long}
 use Rattle.standing.specs.Standing.{accountRow, contractRow, rowsOf, view}
 use Rattle.standing.specs.StandingLaws.{sound-kept, sound-holds}
+use Rattle.standing.specs.SoundLaws.{sound-shaped, sound-long}
 use Rattle.standing.specs.MemberLaws.{listed-row, member-account}
 use Rattle.standing.specs.DealLaws.{Stands, held-sound, account-after, contract-after, traded-rows}
 use Rattle.hours.specs.Clocked.{clocked, rows-written}

@@ -26,8 +26,8 @@ use Rattle.model.specs.StepLaws.{accepted-by}
 use Rattle.model.specs.Ranged.{Ranged}
 use Rattle.model.specs.RangeLaws.{ranges}
 use Rattle.model.specs.KeptLaws.{kept-new, known}
-use Rattle.standing.specs.Made.{Sound}
 use Rattle.standing.specs.Standing.{rowsOf, view}
+use Rattle.standing.specs.Made.{Sound}
 use Rattle.standing.specs.StandingLaws.{view-is, sound-of}
 use Rattle.book.specs.declared.calls.Answer.{Answer}
 use Rattle.book.specs.declared.calls.Answer.the-variants.{Refused, Done, BothSides, Closed}

@@ -129,27 +129,21 @@ module _ {c : List ℕ} {m : List ℤ} {t : Trade} {n k i : ℕ} (d : Proposed c
       rw (f, l, r, e ∙ side-in, margins-in ms) (totals-after t known (d .contract) n (d .live))
 
 -- ---- what is answered
-module _ {c : List ℕ} {m : List ℤ} (s : Sound c m) where
-  abbrev b : Book
-  b = view c m
+pub open-is : {c : List ℕ} {m : List ℤ} → Sound c m → {h : Header} {r : Bool} → h ≡ headerAt c → r ≡ (eqb (h .point) 2 || eqb (h .point) 3)
+    → isOpen (view c m .today .point) ≡ r
+open-is s p q = sym (q ∙ ap (λ (x : Header). eqb (x .point) 2 || eqb (x .point) 3) (p ∙ sound-header s))
 
-  abbrev g : Kept b
-  g = sound-kept s
+module _ (b : Book) (t : Trade) (n : ℕ) where
+  pub asked-shut : isOpen (b .today .point) ≡ false → Nothing ≡ askedIn b t n
+  asked-shut o = sym (when-false _ _ o)
 
-  pub open-is : {h : Header} {r : Bool} → h ≡ headerAt c → r ≡ (eqb (h .point) 2 || eqb (h .point) 3) → isOpen (b .today .point) ≡ r
-  open-is p q = sym (q ∙ ap (λ (x : Header). eqb (x .point) 2 || eqb (x .point) 3) (p ∙ sound-header s))
+  module _ (live : isOpen (b .today .point) ≡ true) where
+    pub asked-unlisted : isListed b (t .code) ≡ false → Nothing ≡ askedIn b t n
+    asked-unlisted l = sym (when-true _ _ live ∙ when-false _ _ l)
 
-  module _ (t : Trade) (n : ℕ) where
-    pub asked-shut : isOpen (b .today .point) ≡ false → Nothing ≡ askedIn (view c m) t n
-    asked-shut o = sym (when-false _ _ o)
+    module _ (listed : isListed b (t .code) ≡ true) where
+      pub asked-unknown : isMember b n ≡ false → Nothing ≡ askedIn b t n
+      asked-unknown e = sym (when-true _ _ live ∙ when-true _ _ listed ∙ when-false _ _ e)
 
-    module _ (live : isOpen (b .today .point) ≡ true) where
-      pub asked-unlisted : isListed b (t .code) ≡ false → Nothing ≡ askedIn (view c m) t n
-      asked-unlisted l = sym (when-true _ _ live ∙ when-false _ _ l)
-
-      module _ (listed : isListed b (t .code) ≡ true) where
-        pub asked-unknown : isMember b n ≡ false → Nothing ≡ askedIn (view c m) t n
-        asked-unknown e = sym (when-true _ _ live ∙ when-true _ _ listed ∙ when-false _ _ e)
-
-        pub asked-totals : isMember b n ≡ true → {x : Totals} → x ≡ sideTotals (view c m) t n → Of x ≡ askedIn (view c m) t n
-        asked-totals e p = ap (λ (y : Totals). Of y) p ∙ sym (when-true _ _ live ∙ when-true _ _ listed ∙ when-true _ _ e)
+      pub asked-totals : isMember b n ≡ true → {x : Totals} → x ≡ sideTotals b t n → Of x ≡ askedIn b t n
+      asked-totals e p = ap (λ (y : Totals). Of y) p ∙ sym (when-true _ _ live ∙ when-true _ _ listed ∙ when-true _ _ e)

@@ -14,8 +14,8 @@ use Rattle.memory.specs.Layout.{withContractCounts, withContractMoney}
 use Rattle.model.specs.Book.{Book}
 use Rattle.model.specs.Calls.{Quote}
 use Rattle.model.specs.Refusals.{isOpen, inHours}
-use Rattle.standing.specs.StandingLaws.{sound-kept, sound-holds}
 use Rattle.standing.specs.Standing.{headerRow, view}
+use Rattle.standing.specs.StandingLaws.{sound-kept, sound-holds}
 use Rattle.standing.specs.SoundLaws.{sound-long, sound-header, sound-listed}
 use Rattle.standing.specs.DealLaws.{Stands, withTally}
 use Rattle.hours.specs.Searched.{code-at, code-none}

@@ -1,9 +1,9 @@
 -- What is found of the trade is of the book that the memory stands for.
 use mathlib.Core.Path.{_∙_}
 use borrow.Author.Needs.{needs}
+use Rattle.model.specs.Book.{Book}
 use Rattle.standing.specs.Standing.{view}
 use Rattle.standing.specs.StandingLaws.{sound-kept, sound-holds}
-use Rattle.model.specs.Book.{Book}
 use Rattle.standing.specs.SoundLaws.{sound-long, sound-header, sound-members, sound-listed}
 use Rattle.dealing.specs.TradedLaws.{refused-traded}
 use Rattle.dealing.proofs.trades.trade.Statement.{statement}

@@ -12,8 +12,8 @@ use Rattle.memory.specs.Memory.{Holds}
 use Rattle.model.specs.Book.{Book, marginsOf}
 use Rattle.model.specs.Calls.{Trade}
 use Rattle.model.specs.Effects.{traded}
-use Rattle.standing.specs.StandingLaws.{sound-kept, sound-holds}
 use Rattle.standing.specs.Standing.{accountRow, view}
+use Rattle.standing.specs.StandingLaws.{sound-kept, sound-holds}
 use Rattle.standing.specs.DealLaws.{margins-sound, margins-are, buyer-lots, seller-lots}
 use Rattle.dealing.specs.Dealing.{tradeOf, Traded}
 use Rattle.dealing.specs.Parties.{Answers}

@@ -65,7 +65,7 @@ is-open-requires c κs = search needs
 returns : tie.Need-returns
 returns c =
     let s = start (c .before) in
-    asked-shut (s .pre .0) (deal s) (s .args .number) (open-at (c .before) ∙ not-true _ (c .if1 .taken))
+    asked-shut (book s) (deal s) (s .args .number) (open-at (c .before) ∙ not-true _ (c .if1 .taken))
 
 find-contract-requires : tie.Need-find-contract-requires
 find-contract-requires c κs = let h = start (c .before) .pre .0 in (sound-long h .counts, sound-listed h)
@@ -81,7 +81,7 @@ returns-2 c =
     let found = c .before .before in
     let s = start (found .before .before) in
     let h = s .pre .0 in
-    asked-unlisted h (deal s) (s .args .number) (live (found .before))
+    asked-unlisted (book s) (deal s) (s .args .number) (live (found .before))
     (code-none (sound-kept h) (sound-holds h) (deal s .code) (sym (found .find-contract .ensures) ∙ c .enum-told .given .1))
 
 find-account-requires : tie.Need-find-account-requires
@@ -99,7 +99,7 @@ returns-3 c =
     let k = found .before .before in
     let s = start-k k in
     let h = s .pre .0 in
-    asked-unknown h (deal s) (s .args .number) (live (before-k k)) (has-here (contract k))
+    asked-unknown (book s) (deal s) (s .args .number) (live (before-k k)) (has-here (contract k))
     (member-none (sound-kept h) (sound-holds h) (s .args .number) (sym (found .find-account .ensures) ∙ c .enum-told2 .given .1))
 
 side-totals-requires : tie.Need-side-totals-requires
@@ -119,7 +119,7 @@ returns-4 c =
     let i = c .before .before in
     let k = before-i i in
     let s = start-i i in
-    asked-totals (s .pre .0) (deal s) (s .args .number) (live (before-k k)) (has-here (contract k)) (has-here (side i)) (c .side-totals .ensures)
+    asked-totals (book s) (deal s) (s .args .number) (live (before-k k)) (has-here (contract k)) (has-here (side i)) (c .side-totals .ensures)
 
 pub asked-spec : {M : Type 1} → statement M
 asked-spec =
