@@ -108,7 +108,7 @@ def month_line(calendar, month):
     return f'month {code_of(month)} {shown(d)} {last}'
 
 
-# There is no listing where "a listed month's D [is] not in the calendar" (refusal 4).
+# There is no listing where a listed month is "without a settlement day in the calendar" (refusal 21).
 def listed_line(calendar, t):
     listed = calendar.listed(t)
     if not all(is_in(calendar.settlement[m]) for m in listed):

@@ -21,7 +21,7 @@ from tempfile import TemporaryDirectory
 
 # Of this folder.
 from accounts import Book, Refused
-from calendar import FIRST, LAST, ONE_DAY, code_of, dates, is_in, number_of
+from calendar import FIRST, code_of, is_in, number_of
 from rates import BID, OFFER, Day, Trade, in_last_hour, records_in, verdicts_in
 from records import START, numbers_of
 from vectors import event_files
@@ -116,7 +116,7 @@ def line_term(line):
     if first == 'house':
         return applied('house', whole(int(rest[0])))
     if rest[0] == 'no':
-        return applied('not-ok', first, rest[1])
+        return applied('not-ok', first, f'(record {{ number = {rest[1]}; values = {listed(rest[2:])} }})')
     return applied('ok-on', first, rest[1]) if rest[1:] else applied('ok', first)
 
 
@@ -144,12 +144,6 @@ class State:
         if kind == OPEN:
             self.day = values[0]
         self.point = POINTS.get(kind, self.point)
-
-    # "First open: any working day; later ones: the next working day after the one closed."
-    def may_open(self, date):
-        working = self.calendar().is_working
-        after = dates(FIRST + timedelta(self.day) + ONE_DAY, LAST)
-        return working(date) and (self.point == 'unopened' or date == next(filter(working, after), None))
 
     # The days of the listed contracts by code. The model lists an ended contract no more from its close on, and clears the tallies.
     def days(self):
@@ -230,13 +224,11 @@ class Spec:
 
     # So is the listing of an open. It is computed from the months up to the last that is listed.
     def proof_of_open(self, term, values, refusal):
-        if refusal not in (0, 4):
+        if refusal not in (0, 21):
             return None
-        day, calendar, date = values[0], self.state.calendar(), FIRST + timedelta(values[0])
-        months = calendar.listed(date)
+        day, calendar = values[0], self.state.calendar()
+        months = calendar.listed(FIRST + timedelta(day))
         known = all(is_in(calendar.settlement[month]) for month in months)
-        if refusal and (known or not self.state.may_open(date)):
-            return None
         self.end_part()
         name, table = f'listing-{len(self.ends)}', f'table-{len(self.ends) - 1}'
         codes, working = listed(map(code_of, months)), f'(isWorking {self.state.exceptions()})'

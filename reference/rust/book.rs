@@ -19,26 +19,56 @@ const AFTERNOON: std::ops::Range<i64> = 48_600..59_400;
 const LAST_HOUR: std::ops::Range<i64> = 55_800..59_400;
 const ENOUGH_TRADES: usize = 5;
 
-/// Why a call is refused, with the number that is printed. Number 1 is the reader's.
+/// Why a call is refused. Number 1 is the reader's.
 #[derive(Clone, Copy)]
 pub enum Refusal {
-    OutOfRange = 2,
-    NotNow = 3,
-    WrongDay = 4,
-    AccountUnknown = 5,
-    AlreadyEnrolled = 6,
-    TooManyAccounts = 7,
-    NotListed = 8,
-    TimeRunsBack = 9,
-    OutsideHours = 10,
-    BuyerIsSeller = 11,
-    InDefault = 12,
-    NetTooLarge = 13,
-    OverLimit = 14,
-    MoreThanThere = 15,
-    TableFull = 16,
-    HoldsTooMuch = 17,
-    CalendarRefused = 18,
+    OutOfRange,
+    NotNow,
+    AccountUnknown,
+    AlreadyEnrolled,
+    TooManyAccounts,
+    NotListed,
+    TimeRunsBack,
+    OutsideHours,
+    BuyerIsSeller,
+    InDefault,
+    NetTooLarge,
+    OverLimit,
+    MoreThanThere,
+    TableFull,
+    HoldsTooMuch,
+    CalendarRefused,
+    DayOff,
+    /// With the day that is expected.
+    NotNextDay(i64),
+    MonthWithoutSettlement,
+}
+
+impl Refusal {
+    /// The number that is printed.
+    pub fn number(self) -> u8 {
+        match self {
+            Refusal::OutOfRange => 2,
+            Refusal::NotNow => 3,
+            Refusal::AccountUnknown => 5,
+            Refusal::AlreadyEnrolled => 6,
+            Refusal::TooManyAccounts => 7,
+            Refusal::NotListed => 8,
+            Refusal::TimeRunsBack => 9,
+            Refusal::OutsideHours => 10,
+            Refusal::BuyerIsSeller => 11,
+            Refusal::InDefault => 12,
+            Refusal::NetTooLarge => 13,
+            Refusal::OverLimit => 14,
+            Refusal::MoreThanThere => 15,
+            Refusal::TableFull => 16,
+            Refusal::HoldsTooMuch => 17,
+            Refusal::CalendarRefused => 18,
+            Refusal::DayOff => 19,
+            Refusal::NotNextDay(_) => 20,
+            Refusal::MonthWithoutSettlement => 21,
+        }
+    }
 }
 
 #[derive(Clone, Copy, PartialEq)]
@@ -286,14 +316,16 @@ impl Book {
     }
 
     fn open(&mut self, day: i64, list_rates: &[i64], margin_rates: &[i64]) -> Result<(), Refusal> {
-        let day_fits = match self.day {
-            NEVER_OPEN => self.calendar.is_working(day),
-            closed => self.calendar.next_working_day(closed) == Some(day),
-        };
-        if !day_fits {
-            return Err(Refusal::WrongDay);
+        if !self.calendar.is_working(day) {
+            return Err(Refusal::DayOff);
         }
-        let months = self.calendar.listed(day).ok_or(Refusal::WrongDay)?;
+        if self.day != NEVER_OPEN {
+            let expected = self.calendar.next_working_day(self.day).expect("what is listed settles later");
+            if day != expected {
+                return Err(Refusal::NotNextDay(expected));
+            }
+        }
+        let months = self.calendar.listed(day).ok_or(Refusal::MonthWithoutSettlement)?;
         self.list(&months, list_rates, margin_rates);
         self.day = day;
         self.clock = 0;

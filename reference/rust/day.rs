@@ -7,7 +7,7 @@ mod calendar;
 #[allow(dead_code)] // Only the generator writes records.
 mod records;
 
-use book::{Book, DayEnd};
+use book::{Book, DayEnd, Refusal};
 use std::io::{self, BufWriter, Read, Write};
 use std::process::ExitCode;
 
@@ -37,7 +37,10 @@ fn print_day(file: &[u8], out: &mut impl Write) -> io::Result<()> {
         match book.call(&record) {
             Ok(None) => writeln!(out, "{} ok", record.kind)?,
             Ok(Some(day_end)) => print_day_end(record.kind, &day_end, out)?,
-            Err(refusal) => writeln!(out, "{} no {}", record.kind, refusal as u8)?,
+            Err(refusal @ Refusal::NotNextDay(expected)) => {
+                writeln!(out, "{} no {} {expected}", record.kind, refusal.number())?
+            }
+            Err(refusal) => writeln!(out, "{} no {}", record.kind, refusal.number())?,
         }
         place = next;
     }

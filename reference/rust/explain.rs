@@ -293,7 +293,7 @@ fn refused_line(trade: &NamedTrade, refusal: Refusal) -> String {
     let rate = text::rate(trade.rate);
     let deal = if trade.bought { format!("bought {lots} from") } else { format!("sold {lots} to") };
     let words = refusal_words(trade, refusal);
-    format!("  {time}  {code}  {deal} {other} at {rate}: {}, {words}\n", refusal as u8)
+    format!("  {time}  {code}  {deal} {other} at {rate}: {}, {words}\n", refusal.number())
 }
 
 fn refusal_words(trade: &NamedTrade, refusal: Refusal) -> String {
@@ -309,7 +309,7 @@ fn refusal_words(trade: &NamedTrade, refusal: Refusal) -> String {
         Refusal::NetTooLarge => "a net position would pass 20000 lots",
         Refusal::TableFull => "the day has 10000 trades",
         Refusal::OverLimit => return over_limit_words(&trade.totals.expect("both sides are in the book")),
-        other => panic!("a trade was refused {}", other as u8),
+        other => panic!("a trade was refused {}", other.number()),
     };
     words.to_string()
 }

@@ -3,6 +3,7 @@ use mathlib.Core.Path.{_≡_, refl, ap, subst}
 use mathlib.Core.Bool.{Bool, true, false, cond}
 use mathlib.Core.List.{List, []}
 use Prim.Native.Nat.{ℕ, zero, suc, _-_, _≤_}
+use native.Mathlib.Nat.{suc-ne-zero}
 use native.Mathlib.Decide.{decLe}
 use native.Mathlib.Omega.{arith}
 use lib.IntN.{ℤ, pos}
@@ -12,7 +13,7 @@ use Rattle.ranges.specs.declared.Checked.the-variants as range
 use Rattle.ranges.specs.Ranges.{inRange, checked, refusalOf}
 use Rattle.records.specs.Records.{entry}
 use Rattle.model.specs.Book.{Book}
-use Rattle.model.specs.Calls.{callOf}
+use Rattle.model.specs.Calls.{Opening, opening, callOf}
 use Rattle.model.specs.Answers.{done, accepts}
 use Rattle.model.specs.Ranged.{Ranged}
 use Rattle.standing.specs.Made.{Sound}
@@ -20,16 +21,18 @@ use Rattle.book.specs.declared.calls.Answer.the-variants.{Refused}
 use Rattle.book.specs.Called.{Called}
 use Rattle.book.specs.CalledLaws.{unranged-called}
 
--- the calls of the first kinds answer no more than that they are done
-pub first-done : (b : Book) (kind : ℕ) (fields x : List ℕ) → kind ≤ 6 → accepts b (callOf (entry kind fields x)) ≡ done
+-- the calls of the first kinds answer no more than that they are done, and none is an open
+pub first-done : (b : Book) (kind : ℕ) (fields x : List ℕ) → kind ≤ 6
+    → (accepts b (callOf (entry kind fields x)) ≡ done)
+    × ((o : Opening) → callOf (entry kind fields x) ≡ opening o → ⊥)
 unfolding callOf
-first-done b zero f x h = refl
-first-done b (suc zero) f x h = refl
-first-done b (suc (suc zero)) f x h = refl
-first-done b (suc (suc (suc zero))) f x h = refl
-first-done b (suc (suc (suc (suc zero)))) f x h = refl
-first-done b (suc (suc (suc (suc (suc zero))))) f x h = refl
-first-done b (suc (suc (suc (suc (suc (suc zero)))))) f x h = refl
+first-done b zero f x h = (refl, λ o q. suc-ne-zero 0 cc)
+first-done b (suc zero) f x h = (refl, λ o q. suc-ne-zero 0 cc)
+first-done b (suc (suc zero)) f x h = (refl, λ o q. suc-ne-zero 0 cc)
+first-done b (suc (suc (suc zero))) f x h = (refl, λ o q. suc-ne-zero 0 cc)
+first-done b (suc (suc (suc (suc zero)))) f x h = (refl, λ o q. suc-ne-zero 0 cc)
+first-done b (suc (suc (suc (suc (suc zero))))) f x h = (refl, λ o q. suc-ne-zero 0 cc)
+first-done b (suc (suc (suc (suc (suc (suc zero)))))) f x h = (refl, λ o q. suc-ne-zero 0 cc)
 first-done b (suc (suc (suc (suc (suc (suc (suc n))))))) f x h = absurd (omega arith)
 
 -- only a start has exceptions

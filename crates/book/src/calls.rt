@@ -11,7 +11,7 @@ ghost use Rattle.model.specs.Ranged.{Ranged};
 ghost use Rattle.standing.specs.Standing.{rowsOf};
 ghost use Rattle.standing.specs.Made.{Sound, Made};
 ghost use Rattle.book.specs.Called.{Called};
-ghost use Rattle.book.specs.Answered.{numbered as numberedAs, dealt as dealtAs, Answered};
+ghost use Rattle.book.specs.Answered.{numbered as numberedAs, dealt as dealtAs, opened as openedAs, Answered};
 ghost use Rattle.book.specs.Taken.{limitsIn, ratesIn, marginsIn, dealIn};
 use day_end::close;
 use dealing::Deal;
@@ -28,6 +28,7 @@ use keeping::start;
 use memory::COUNTS;
 use memory::MONEY;
 use memory::clear;
+use opening::Opened;
 use opening::open_day;
 use payments::pay_in;
 use payments::pay_out;
@@ -38,10 +39,11 @@ use ranges::in_range;
 use settling::refresh;
 use settling::settle;
 
-// What a call answers: the number of its refusal; that it is done; for a trade the buyer's and the seller's total before, total after
-// and limit; for a close that it is done and its report can be read.
+// What a call answers: the number of its refusal; for an open that is not the next working day, which is refusal 20, the day that is; that it
+// is done; for a trade the buyer's and the seller's total before, total after and limit; for a close that it is done and its report can be read.
 pub enum Answer {
     Refused(u64),
+    NotNext(u64),
     Done,
     BothSides(Totals, Totals),
     Closed,
@@ -70,6 +72,16 @@ fn dealt(d: Dealt) -> Answer
     match d {
         Dealt::Refused(number) => Answer::Refused(number),
         Dealt::Accepted(buyer, seller) => Answer::BothSides(buyer, seller),
+    }
+}
+
+fn opened(o: Opened) -> Answer
+    ensures { λ r. ⌜ r ≡ openedAs o ⌝ }
+{
+    match o {
+        Opened::Done => Answer::Done,
+        Opened::Refused(number) => Answer::Refused(number),
+        Opened::NotNext(day) => Answer::NotNext(day),
     }
 }
 
@@ -166,10 +178,7 @@ fn call_day(
         7 => {
             let rates = rates_in(fields);
             let margins = margins_in(fields);
-            numbered(
-                open_day(counts, money, fields[0], rates, margins),
-                Answer::Done,
-            )
+            opened(open_day(counts, money, fields[0], rates, margins))
         }
         8 => {
             let t = deal_in(fields);

@@ -18,7 +18,7 @@ use Rattle.days.specs.Days.{rising, risingAfter, nextWorking, accepted, isOn, i
 use Rattle.days.specs.DayLaws.{rising-step, rising-below, First, Last, first-of, last-of}
 use Rattle.months.specs.Months.{codeOf, settlementDay, lastTradingDay, ofMonth, lastTradingOf}
 use Rattle.calendar.specs.Listing.{settlesAfter, isListed, settles, listedMonths, unknown, listing}
-use Rattle.months.specs.MonthLaws.{codes-rise, month-of, settles-from, settles-first, settles-rise, trades-before}
+use Rattle.months.specs.MonthLaws.{codes-rise, month-of, settles-from, settles-first, settles-below, settles-rise, trades-before}
 use Rattle.calendar.specs.ListingLaws.{listed-after, listed-trades, stays-listed, six-listed, listed-rise, known-settles}
 
 -- ---- a rising list has no number twice
@@ -148,6 +148,18 @@ module _ (w : ℕ → Bool) where
         let r = code-runs c h in
         let l = listed-trades w t (r .month) (r .day) works (r .listed) (r .settled) in
         (l .0, (ap (lastTradingOf w) (sym (r .code)) ∙ last-trading (r .month) (r .below) ∙ l .1 .0, l .1 .1))
+
+    -- what is listed settles after t, and on a working day
+    pub settles-later : (d : ℕ) × ((t < d) × ((d < 3653) × (w d ≡ true)))
+    unfolding has
+    settles-later = go (listing w t .codes) refl codes-length
+      where
+        go : (l : List ℕ) → listing w t .codes ≡ l → length l ≡ 6 → (d : ℕ) × ((t < d) × ((d < 3653) × (w d ≡ true)))
+        go [] e h = absurd (omega arith)
+        go (c ∷ l) e h =
+            let r = code-runs c (ap (has c) e ∙ rw (eq-eqb c c refl)) in
+            let after = listed-after w t (r .month) (r .day) (r .listed) (r .settled) in
+            (r .day, (after, (settles-below w (r .month) (r .day) (r .settled), settles-first w (r .month) (r .day) (r .settled) .works)))
 
   -- ---- from a day to the next that is opened
   -- a listed month that does not end on t is listed on the next working day

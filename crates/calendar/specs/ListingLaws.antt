@@ -1,5 +1,5 @@
 -- What follows for listings: six codes that rise, what is listed stays until it settles, and what has settled is never listed again.
-use mathlib.Core.Path.{_≡_, refl, _∙_}
+use mathlib.Core.Path.{_≡_, refl, sym, _∙_}
 use mathlib.Core.Bool.{Bool, true, false, not, cond, false≢true, and-eq-true-iff}
 use mathlib.Core.List.{List, [], _∷_, _++_, map, append-nil}
 use Prim.Native.Nat.{ℕ, zero, suc, _≤_, _<_}
@@ -7,11 +7,11 @@ use native.Mathlib.Omega.{arith}
 use lib.Dec.{ltb, leb}
 use lib.ListN.{length}
 use borrow.Author.Tests.{ltb-true, lt-ltb}
-use Rattle.lists.specs.Passing.{passing, all, count-past, count-more, all-append, all-passing}
+use Rattle.lists.specs.Passing.{passing, all, count-past, count-more, all-append, all-passing, one-fails}
 use Rattle.lists.specs.Rows.{map-append}
 use Rattle.days.specs.declared.Day.{Day}
 use Rattle.days.specs.declared.Day.the-variants.{On, NoDay}
-use Rattle.days.specs.Days.{rising, risingAfter}
+use Rattle.days.specs.Days.{rising, risingAfter, isNoDay}
 use Rattle.days.specs.DayLaws.{last-finds}
 use Rattle.months.specs.Months.{isQuarterly, codeOf, settlementDay, lastTradingDay}
 use Rattle.months.specs.MonthLaws.{codes-rise, trades-before}
@@ -128,3 +128,19 @@ module _ (w : ℕ → Bool) where
       go : (a : Bool) → all (settles w) (listedMonths w t) ≡ a → cond a (record { known = true; codes = map codeOf (listedMonths w t) }) unknown .known ≡ true → settles w m ≡ true
       go true a q = all-passing (settles w) (isListed w t) 1200 m a h k
       go false a q = absurd (false≢true q)
+
+  -- where it is not, one of them has none
+  pub unknown-settles : (t : ℕ) → listing w t .known ≡ false → (m : ℕ) × ((isListed w t m ≡ true) × (settlementDay w m ≡ NoDay))
+  unfolding listing
+  unknown-settles t e = go (all (settles w) (listedMonths w t)) refl e
+    where
+      no-day : (a : Day) → not (isNoDay a) ≡ false → a ≡ NoDay
+      no-day (On d) p = absurd (false≢true (sym p))
+      no-day NoDay p = refl
+
+      go : (a : Bool) → all (settles w) (listedMonths w t) ≡ a → cond a (record { known = true; codes = map codeOf (listedMonths w t) }) unknown .known ≡ false
+          → (m : ℕ) × ((isListed w t m ≡ true) × (settlementDay w m ≡ NoDay))
+      go true a q = absurd (false≢true (sym q))
+      go false a q =
+          let f = one-fails (settles w) (isListed w t) 1200 a in
+          (f .0, (f .1 .1 .0, no-day (settlementDay w (f .0)) (f .1 .1 .1)))

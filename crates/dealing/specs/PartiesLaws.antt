@@ -3,6 +3,7 @@ use mathlib.Core.Path.{_≡_, sym, ap, _∙_}
 use mathlib.Core.Bool.{true, false, not}
 use mathlib.Core.List.{List, [], _∷_}
 use Prim.Native.Nat.{ℕ, suc, _≤_}
+use native.Mathlib.Nat.{suc-ne-zero}
 use borrow.Author.Tests.{lt-ltb, le-ltb}
 use lib.Dec.{eqb, leb, ltb}
 use Rattle.positions.specs.Beyond.{isBeyond}
@@ -12,6 +13,7 @@ use Rattle.model.specs.Calls.{Trade, trade}
 use Rattle.model.specs.Effects.{traded}
 use Rattle.model.specs.Refusals.{needs, firstOf, isOpen, inHours, sideTotals}
 use Rattle.model.specs.Answers.{answered}
+use Rattle.model.specs.OpenDayLaws.{plainly}
 use Rattle.standing.specs.Made.{decided}
 use Rattle.standing.specs.DealLaws.{Between}
 use Rattle.hours.specs.Searched.{has-here}
@@ -21,7 +23,7 @@ use Rattle.dealing.specs.Parties.{Answers, Ready}
 -- ---- the tests
 module _ (b : Book) (t : Trade) where
   refused-by : (n : ℕ) → decided b (trade t) ≡ suc n → Answers b t (Refused (suc n))
-  refused-by n e = ap (λ d. answered d b (trade t)) (sym e)
+  refused-by n e = sym (plainly b (trade t) (λ o q. suc-ne-zero 0 cc) (suc n) e) ∙ ap (λ d. answered d b (trade t)) (sym e)
 
   -- the last six of them, which the two sides decide
   abbrev pub sideTests : List ℕ

@@ -14,8 +14,9 @@ use Rattle.model.specs.Book.{Book, marginsOf}
 use Rattle.model.specs.Calls.{Trade, trade}
 use Rattle.model.specs.Effects.{traded, after}
 use Rattle.model.specs.Refusals.{needs, firstOf, sideTotals}
-use Rattle.model.specs.Answers.{refused, bothSides, answered, kept}
+use Rattle.model.specs.Answers.{refused, bothSides, answered, kept, refusalOf}
 use Rattle.model.specs.Kept.{Kept}
+use Rattle.model.specs.OpenDayLaws.{refusing-number}
 use Rattle.standing.specs.Standing.{accountRow, rowsOf, view}
 use Rattle.standing.specs.Made.{decided, Sound}
 use Rattle.standing.specs.StandingLaws.{sound-holds}
@@ -67,7 +68,7 @@ refused-keeps b t n (suc d) e = refl
 accepted-keeps : (b : Book) (t : Trade) (x y : Totals) (d : ℕ) → bothSides x y ≡ answered d b (trade t) → kept d b (trade t) ≡ traded b t
 unfolding after
 accepted-keeps b t x y zero e = refl
-accepted-keeps b t x y (suc d) e = let z : _≡_ {A = ℕ} 0 1 = cc in absurd (omega arith)
+accepted-keeps b t x y (suc d) e = absurd (omega (arith, ap (λ a. refusalOf a .number) e, refusing-number b (suc d)))
 
 module _ {c : List ℕ} {m : List ℤ} (s : Sound c m) {t : Trade} where
   pub refused-traded : {n : ℕ} → Answers (view c m) t (Refused n) → Traded c m t (Refused n) c m

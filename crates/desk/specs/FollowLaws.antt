@@ -3,6 +3,7 @@ use mathlib.Core.Path.{_≡_, refl, sym, _∙_, ap, ap₂, subst}
 use mathlib.Core.Bool.{true, false, cond, _||_}
 use mathlib.Core.List.{List, [], _∷_, _++_}
 use Prim.Native.Nat.{ℕ, zero, suc, _+_, _-_, _≤_}
+use native.Mathlib.Nat.{suc-ne-zero}
 use native.Mathlib.Numerals.{add-one}
 use native.Mathlib.Omega.{arith}
 use borrow.Author.Tests.{eqb-true, eq-eqb, ne-eqb}
@@ -25,12 +26,13 @@ use Rattle.model.specs.History.{runFrom, step, run, log, noted, atTrade}
 use Rattle.model.specs.StepLaws.{accepted-by}
 use Rattle.model.specs.Ranged.{Ranged}
 use Rattle.model.specs.RangeLaws.{ranges}
+use Rattle.model.specs.OpenDayLaws.{refusing-number}
 use Rattle.model.specs.KeptLaws.{kept-new, known}
 use Rattle.standing.specs.Standing.{rowsOf, view}
 use Rattle.standing.specs.Made.{Sound}
 use Rattle.standing.specs.StandingLaws.{view-is, sound-of}
 use Rattle.book.specs.declared.calls.Answer.{Answer}
-use Rattle.book.specs.declared.calls.Answer.the-variants.{Refused, Done, BothSides, Closed}
+use Rattle.book.specs.declared.calls.Answer.the-variants.{Refused, NotNext, Done, BothSides, Closed}
 use Rattle.book.specs.declared.bytes.Fed.{Fed}
 use Rattle.book.specs.declared.bytes.Fed.the-variants as fed
 use Rattle.book.specs.Called.{answerOf, Called}
@@ -80,21 +82,24 @@ padded-trade own = let p = padded-at own (13 - length own) in rw (p 0, p 1, p 2,
 -- ---- what a call was, by its answer
 pub data Was (h : List Entry) (e : Entry) : Answer → Type 0 where
   refusing : {k : ℕ} → refusal (run h) e ≡ suc k → Was h e (Refused (suc k))
+  waiting : {k day : ℕ} → refusal (run h) e ≡ suc k → Was h e (NotNext day)
   quiet : refusal (run h) e ≡ 0 → ((n : ℕ) → rowsToday n (step (run h) (callOf e) ∷ log h) ≡ rowsToday n (log h)) → Was h e Done
   trading : (t : Trade) → refusal (run h) e ≡ 0 → callOf e ≡ trade t
       → Was h e (BothSides (sideTotals (run h) t (t .buyer)) (sideTotals (run h) t (t .seller)))
   closing : (final : ℤ) → refusal (run h) e ≡ 0 → callOf e ≡ close final → Was h e Closed
 
 module _ (h : List Entry) (e : Entry) (v : Book) where
-  was-refused : (k : ℕ) → refusal (run h) e ≡ suc k → (a : Answer) → answerOf v a ≡ model.refused (suc k) → Was h e a
-  was-refused k r (Refused number) q = let same : suc k ≡ number = cc in subst (λ j. Was h e (Refused j)) same (refusing r)
-  was-refused k r Done q = let z : _≡_ {A = ℕ} 0 1 = cc in absurd (omega arith)
-  was-refused k r (BothSides x y) q = let z : _≡_ {A = ℕ} 0 1 = cc in absurd (omega arith)
-  was-refused k r Closed q = let z : _≡_ {A = ℕ} 0 1 = cc in absurd (omega arith)
+  was-refused : (k : ℕ) → refusal (run h) e ≡ suc k → (a : Answer) → model.refusalOf (answerOf v a) .number ≡ suc k → Was h e a
+  was-refused k r (Refused number) q = subst (λ j. Was h e (Refused j)) (sym q) (refusing r)
+  was-refused k r (NotNext day) q = waiting r
+  was-refused k r Done q = absurd (suc-ne-zero k (sym q))
+  was-refused k r (BothSides x y) q = absurd (suc-ne-zero k (sym q))
+  was-refused k r Closed q = absurd (suc-ne-zero k (sym q))
 
   module _ (r : refusal (run h) e ≡ 0) where
     was-done : ((n : ℕ) → rowsToday n (step (run h) (callOf e) ∷ log h) ≡ rowsToday n (log h)) → (a : Answer) → answerOf v a ≡ model.done → Was h e a
     was-done same (Refused number) q = let z : _≡_ {A = ℕ} 0 1 = cc in absurd (omega arith)
+    was-done same (NotNext day) q = let z : _≡_ {A = ℕ} 0 1 = cc in absurd (omega arith)
     was-done same Done q = quiet r same
     was-done same (BothSides x y) q = let z : _≡_ {A = ℕ} 0 1 = cc in absurd (omega arith)
     was-done same Closed q = let z : _≡_ {A = ℕ} 0 1 = cc in absurd (omega arith)
@@ -102,6 +107,7 @@ module _ (h : List Entry) (e : Entry) (v : Book) where
     was-trade : (t : Trade) → callOf e ≡ trade t → (a : Answer)
         → answerOf v a ≡ model.bothSides (sideTotals (run h) t (t .buyer)) (sideTotals (run h) t (t .seller)) → Was h e a
     was-trade t p (Refused number) q = let z : _≡_ {A = ℕ} 0 1 = cc in absurd (omega arith)
+    was-trade t p (NotNext day) q = let z : _≡_ {A = ℕ} 0 1 = cc in absurd (omega arith)
     was-trade t p Done q = let z : _≡_ {A = ℕ} 0 1 = cc in absurd (omega arith)
     was-trade t p (BothSides x y) q =
         let one : sideTotals (run h) t (t .buyer) ≡ x = cc in
@@ -111,6 +117,7 @@ module _ (h : List Entry) (e : Entry) (v : Book) where
 
     was-close : (final : ℤ) → callOf e ≡ close final → (a : Answer) (report : model.Report) → answerOf v a ≡ model.report report → Was h e a
     was-close final p (Refused number) report q = let z : _≡_ {A = ℕ} 0 1 = cc in absurd (omega arith)
+    was-close final p (NotNext day) report q = let z : _≡_ {A = ℕ} 0 1 = cc in absurd (omega arith)
     was-close final p Done report q = let z : _≡_ {A = ℕ} 0 1 = cc in absurd (omega arith)
     was-close final p (BothSides x y) report q = let z : _≡_ {A = ℕ} 0 1 = cc in absurd (omega arith)
     was-close final p Closed report q = closing final r p
@@ -138,7 +145,7 @@ module _ (h : List Entry) (e : Entry) (v : Book) where
     where
       go : (k : ℕ) → refusal (run h) e ≡ k → answerOf v a ≡ model.answered k (run h) (callOf e) → Was h e a
       go zero r p = was-accepted r (callOf e) refl a p
-      go (suc k) r p = was-refused k r a p
+      go (suc k) r p = was-refused k r a (ap (λ x. model.refusalOf x .number) p ∙ refusing-number (run h) (suc k))
 
 -- ---- one record more
 module _ {n : ℕ} {h : List Entry} {counts : List ℕ} {money : List ℤ} {rowCounts : List ℕ} {rowMoney : List ℤ} {used : ℕ}
@@ -165,6 +172,7 @@ module _ {n : ℕ} {h : List Entry} {counts : List ℕ} {money : List ℤ} {rowC
     where
       go : {x : Answer} → Was h e x → Notable x (tradeIn (e .fields)) used
       go (refusing r) = tt
+      go (waiting r) = tt
       go (quiet r same) = tt
       go (trading deal r p) = (
         omega (arith, many, rows-room n h e r p),
@@ -201,6 +209,7 @@ module _ {n : ℕ} {h : List Entry} {counts : List ℕ} {money : List ℤ} {rowC
         → rowsIn rowCounts′ rowMoney′ used′ ≡ rowsToday n (log (e ∷ h))
     unfolding log rowsToday tab
     rows-next (refusing r) k = kept-rows k ∙ sym (ap (λ j. rowsToday n (noted j (run h) (callOf e) (log h))) r)
+    rows-next (waiting r) k = kept-rows k ∙ sym (ap (λ j. rowsToday n (noted j (run h) (callOf e) (log h))) r)
     rows-next (quiet r same) k = kept-rows k ∙ sym (ap (λ j. rowsToday n (noted j (run h) (callOf e) (log h))) r ∙ same n)
     rows-next (closing final r p) k =
         ap (rowsIn rowCounts′ rowMoney′) (k .1 .1) ∙ sym (ap₂ (λ j x. rowsToday n (noted j (run h) x (log h))) r p)
@@ -220,6 +229,7 @@ module _ {n : ℕ} {h : List Entry} {counts : List ℕ} {money : List ℤ} {rowC
     long-next : {x : Answer} → Was h e x → Tabled x n (tradeIn (e .fields)) rowCounts rowMoney used rowCounts′ rowMoney′ used′
         → (length rowCounts′ ≡ 30000) × (length rowMoney′ ≡ 60000)
     long-next (refusing r) k = (ap length (k .0) ∙ t .counts-long, ap length (k .1 .0) ∙ t .money-long)
+    long-next (waiting r) k = (ap length (k .0) ∙ t .counts-long, ap length (k .1 .0) ∙ t .money-long)
     long-next (quiet r same) k = (ap length (k .0) ∙ t .counts-long, ap length (k .1 .0) ∙ t .money-long)
     long-next (closing final r p) k = (ap length (k .0) ∙ t .counts-long, ap length (k .1 .0) ∙ t .money-long)
     long-next (trading deal r p) k = byTest (isSide n (tradeIn (e .fields)))
@@ -367,6 +377,7 @@ closed-next {n} {h} {used = used} t {e} {counts′} {money′} {rowCounts′} {r
   where
     go : {a : Answer} → a ≡ Closed → Was h e a → Closing counts′ money′ rowCounts′ rowMoney′ used s
     go w (refusing r) = let z : _≡_ {A = ℕ} 0 1 = cc in absurd (omega arith)
+    go w (waiting r) = let z : _≡_ {A = ℕ} 0 1 = cc in absurd (omega arith)
     go w (quiet r same) = let z : _≡_ {A = ℕ} 0 1 = cc in absurd (omega arith)
     go w (trading deal r p) = let z : _≡_ {A = ℕ} 0 1 = cc in absurd (omega arith)
     go w (closing final r p) = record {

@@ -16,8 +16,8 @@ use Rattle.standing.specs.Made.{Sound}
 use Rattle.standing.specs.StandingLaws.{sound-kept}
 use Rattle.book.specs.Called.{answerOf}
 use Rattle.book.specs.declared.calls.Answer.{Answer}
-use Rattle.book.specs.declared.calls.Answer.the-variants.{Refused, Done, BothSides, Closed}
-use Rattle.lines.specs.Lines.{ok, spaced, line, rateLine, accountLine, houseLine, inOrder, codeLines, memberLines, reportLines, answerText, badText}
+use Rattle.book.specs.declared.calls.Answer.the-variants.{Refused, NotNext, Done, BothSides, Closed}
+use Rattle.lines.specs.Lines.{ok, no, spaced, line, rateLine, accountLine, houseLine, inOrder, codeLines, memberLines, reportLines, answerText, badText}
 use Rattle.lines.specs.OrderLaws.{in-order-length}
 use Rattle.lines.specs.LineLaws.{block-short}
 
@@ -38,6 +38,10 @@ house-length balance = simp length-append (omega (arith, signed-length balance))
 pub bad-length : (place : ℕ) → length (badText place) ≤ 30
 unfolding spaced
 bad-length place = simp length-append (omega (arith, numeral-length place))
+
+pub refusal-length : (kind number : ℕ) → length (numeral kind ++ spaced (no ∷ numeral number ∷ [])) ≤ 44
+unfolding spaced
+refusal-length kind number = simp length-append (omega (arith, numeral-length kind, numeral-length number))
 
 pub closed-length : (kind day : ℕ) → length (line (numeral kind) (ok ∷ numeral day ∷ [])) ≤ 45
 unfolding spaced
@@ -67,6 +71,7 @@ module _ {counts : List ℕ} {money : List ℤ} (s : Sound counts money) where
   pub answer-length : (kind : ℕ) (a : Answer) → length (answerText kind (answerOf (view counts money) a)) ≤ 8400
   unfolding spaced
   answer-length kind (Refused number) = simp length-append (omega (arith, numeral-length kind, numeral-length number))
+  answer-length kind (NotNext day) = simp length-append (omega (arith, numeral-length kind, numeral-length 20, numeral-length day))
   answer-length kind Done = simp length-append (omega (arith, numeral-length kind))
   answer-length kind (BothSides buyer seller) = simp length-append (omega (arith, numeral-length kind))
   answer-length kind Closed =

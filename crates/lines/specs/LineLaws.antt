@@ -40,6 +40,10 @@ module _ {room room′ first : List ℕ} {at most p : ℕ} where
     same = put-length (omega arith) put;
   }
 
+  pub begun-with : {fields : List (List ℕ)} → at + most ≤ length room → length (first ++ spaced fields) ≤ most
+      → Put room at (first ++ spaced fields) p room′ → Begun room at first fields most p room′
+  begun-with h short put = record { put = put; short = short; same = put-length (omega arith) put }
+
   module _ {fields : List (List ℕ)} (b : Begun room at first fields most p room′) where
     pub room-left : (k : ℕ) → at + (most + k) ≤ length room → p + k ≤ length room′
     room-left k h = omega (arith, b .put .place, b .short, b .same)

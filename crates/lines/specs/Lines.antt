@@ -1,6 +1,6 @@
 -- The lines of a printed day: document 01, 'A printed day'.
 use mathlib.Core.Bool.{cond}
-use mathlib.Core.List.{List, [], _∷_, _++_}
+use mathlib.Core.List.{List, [], _∷_, _++_, map}
 use Prim.Native.Nat.{ℕ}
 use lib.Dec.{ltb}
 use lib.IntN.{ℤ}
@@ -9,7 +9,7 @@ use Rattle.decimal.specs.Decimal.{numeral, signedNumeral}
 use Rattle.rates.specs.Rules.{numberOf}
 use Rattle.rates.specs.declared.Settled.{Settled}
 use Rattle.reports.specs.declared.Bill as shown
-use Rattle.model.specs.Answers.{Bill, Report, Answer, refused, done, bothSides, report}
+use Rattle.model.specs.Answers.{Bill, Report, Answer, refused, notNext, done, bothSides, report, Refusal, refusalOf}
 
 -- ---- words, in ASCII
 abbrev pub ok : List ℕ
@@ -76,9 +76,13 @@ memberLines r = block (λ number. accountLine number (r .bill number)) (inOrder 
 abbrev pub reportLines : Report → List ℕ
 reportLines r = codeLines r ++ (memberLines r ++ houseLine (r .house))
 
--- ---- "Per record: kind and `ok`, or kind, `no`, refusal"
+-- ---- "Per record: kind and `ok`, or kind, `no`, refusal". Request L2: "20 returns the expected day, which the program prints after it"
+abbrev pub refusalText : ℕ → Refusal → List ℕ
+refusalText kind r = line (numeral kind) (no ∷ numeral (r .number) ∷ map numeral (r .values))
+
 abbrev pub answerText : ℕ → Answer → List ℕ
-answerText kind (refused number) = line (numeral kind) (no ∷ numeral number ∷ [])
+answerText kind (refused number) = refusalText kind (refusalOf (refused number))
+answerText kind (notNext day) = refusalText kind (refusalOf (notNext day))
 answerText kind done = line (numeral kind) (ok ∷ [])
 answerText kind (bothSides buyer seller) = line (numeral kind) (ok ∷ [])
 answerText kind (report r) = line (numeral kind) (ok ∷ numeral (r .day) ∷ []) ++ reportLines r

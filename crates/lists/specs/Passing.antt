@@ -1,6 +1,6 @@
 -- The numbers below n that pass a test, in rising order; and a test of all elements of a list.
 use mathlib.Core.Path.{_≡_, refl, sym, ap, _∙_}
-use mathlib.Core.Bool.{Bool, true, false, _&&_, cond, and-eq-true-iff}
+use mathlib.Core.Bool.{Bool, true, false, _&&_, cond, false≢true, and-eq-true-iff}
 use mathlib.Core.List.{List, [], _∷_, _++_, append-nil}
 use Prim.Native.Nat.{ℕ, zero, suc, _+_, _-_, _≤_, _<_}
 use native.Mathlib.Numerals.{add-one}
@@ -93,6 +93,22 @@ all-passing test p (suc n) k a h e =
     go : Dec (k < n) → (all test (passing p n) ≡ true) × (all test (cond (p n) (n ∷ []) []) ≡ true) → (k < n → p k ≡ true → test k ≡ true) → test k ≡ true
     go (yes u) both ih = ih u e
     go (no u) both ih = let z : n ≡ k = omega arith in and-eq-true-iff (test k) true .0 (rw (z, e) at (both .1)) .0
+
+-- and where the test does not hold of all that pass, it fails for one of them
+pub one-fails : (test p : ℕ → Bool) (n : ℕ) → all test (passing p n) ≡ false → (k : ℕ) × ((k < n) × ((p k ≡ true) × (test k ≡ false)))
+unfolding all passing
+one-fails test p zero a = absurd (false≢true (sym a))
+one-fails test p (suc n) a = go (p n) refl (test n) refl (all test (passing p n)) refl
+    (sym (all-append test (passing p n) (cond (p n) (n ∷ []) [])) ∙ a) (one-fails test p n)
+  where
+    go : (t : Bool) → p n ≡ t → (u : Bool) → test n ≡ u → (before : Bool) → all test (passing p n) ≡ before
+        → before && all test (cond t (n ∷ []) []) ≡ false
+        → (all test (passing p n) ≡ false → (k : ℕ) × ((k < n) × ((p k ≡ true) × (test k ≡ false))))
+        → (k : ℕ) × ((k < suc n) × ((p k ≡ true) × (test k ≡ false)))
+    go t e u f false q h ih = let r = ih q in (r .0, (omega arith, r .1 .1))
+    go true e false f true q h ih = (n, (omega arith, (e, f)))
+    go true e true f true q h ih = absurd (false≢true (sym h ∙ rw f))
+    go false e u f true q h ih = absurd (false≢true (sym h))
 
 -- ---- a list tested from the front: what is left decides
 module _ (test : ℕ → Bool) (l : List ℕ) (i : ℕ) where

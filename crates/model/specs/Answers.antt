@@ -1,14 +1,18 @@
 -- What a call answers, and the book after it.
-use mathlib.Core.List.{List}
+use mathlib.Core.Bool.{cond}
+use mathlib.Core.List.{List, [], _∷_}
 use Prim.Native.Nat.{ℕ, zero, suc}
+use lib.Dec.{eqb}
 use lib.IntN.{ℤ}
+use Rattle.days.specs.declared.Day.{Day}
+use Rattle.days.specs.declared.Day.the-variants.{On, NoDay}
 use Rattle.records.specs.Records.{Entry}
 use Rattle.rates.specs.declared.Settled.{Settled}
 use Rattle.holdings.specs.declared.Totals.{Totals}
 use Rattle.model.specs.Book.{Book}
 use Rattle.model.specs.Calls.{Call, start, enrol, payIn, payOut, release, setSpecial, setLimits, opening, trade, quote, settle, refresh, close, unknown, callOf}
 use Rattle.model.specs.Effects.{after}
-use Rattle.model.specs.Refusals.{sideTotals, refusal}
+use Rattle.model.specs.Refusals.{expected, sideTotals, refusal}
 
 -- "A refusal returns its number .. and changes nothing."
 abbrev pub kept : ℕ → Book → Call → Book
@@ -55,9 +59,11 @@ reportOf b = record {
   house = b .house;
 }
 
--- "An accepted trade answers each side's total before and after and its limit": the buyer's, then the seller's.
+-- "An accepted trade answers each side's total before and after and its limit": the buyer's, then the seller's. An open that is not the next working
+-- day answers which day is.
 pub data Answer : Type 0 where
   refused : ℕ → Answer
+  notNext : ℕ → Answer
   done : Answer
   bothSides : Totals → Totals → Answer
   report : Report → Answer
@@ -78,9 +84,33 @@ accepts b refresh = done
 accepts b (close final) = report (reportOf (after b (close final)))
 accepts b unknown = done
 
+-- ---- what a refused call answers: its number. Request L2: "20 returns the expected day"
+abbrev pub expecting : Day → Answer
+expecting (On d) = notNext d
+expecting NoDay = refused 20
+
+abbrev pub refusing : Book → ℕ → Answer
+refusing b n = cond (eqb n 20) (expecting (expected b)) (refused n)
+
+-- ---- what a call answers
 abbrev pub answered : ℕ → Book → Call → Answer
 answered zero b c = accepts b c
-answered (suc n) b c = refused (suc n)
+answered (suc n) b c = refusing b (suc n)
 
 unfoldable pub answer : Book → Entry → Answer
 answer b e = answered (refusal b e) b (callOf e)
+
+-- ---- an answer in document 01's numbers: that of its refusal, 0 for none, and the values that the refusal returns besides
+pub record Refusal : Type 0 where
+  pub number : ℕ
+  pub values : List ℕ
+
+abbrev accepted : Refusal
+accepted = record { number = 0; values = [] }
+
+abbrev pub refusalOf : Answer → Refusal
+refusalOf (refused n) = record { number = n; values = [] }
+refusalOf (notNext d) = record { number = 20; values = d ∷ [] }
+refusalOf done = accepted
+refusalOf (bothSides buyer seller) = accepted
+refusalOf (report r) = accepted

@@ -19,7 +19,7 @@ use Rattle.rates.specs.declared.Settled.{Settled}
 use Rattle.holdings.specs.Limits.{isOver}
 use Rattle.holdings.specs.declared.Totals.{Totals}
 use Rattle.model.specs.Refusals.{refusal}
-use Rattle.model.specs.Answers.{Report, Answer, refused, done, bothSides, report}
+use Rattle.model.specs.Answers.{Report, Answer, refused, notNext, done, bothSides, report, Refusal, refusalOf}
 use Rattle.model.specs.History.{run, answersTo}
 use Rattle.model.specs.Entries.{starts, enrols, paysIn, opens, trades, quotes, settles, closes}
 
@@ -60,7 +60,7 @@ nextSettle = settles ∷ openOn 1342 ∷ printedDay
 -- balance."
 pub data Line : Type 0 where
   ok : ℕ → Line
-  not-ok : ℕ → ℕ → Line
+  not-ok : ℕ → Refusal → Line
   ok-on : ℕ → ℕ → Line
   rate : ℕ → ℤ → ℕ → ℕ → Line
   account : ℕ → ℤ → ℤ → ℤ → ℤ → Line
@@ -74,7 +74,8 @@ accountLine r n = account n (r .bill n .variation) (r .bill n .due) (r .bill n .
 
 -- accounts in the order in which they enrolled, which is here that of their numbers
 abbrev pub linesOf : ℕ → Answer → List Line
-linesOf kind (refused n) = not-ok kind n ∷ []
+linesOf kind (refused n) = not-ok kind (refusalOf (refused n)) ∷ []
+linesOf kind (notNext d) = not-ok kind (refusalOf (notNext d)) ∷ []
 linesOf kind done = ok kind ∷ []
 linesOf kind (bothSides buyer seller) = ok kind ∷ []
 linesOf kind (report r) = ok-on kind (r .day) ∷ (map (rateLine r) (r .codes) ++ map (accountLine r) (r .members) ++ (house (r .house) ∷ []))

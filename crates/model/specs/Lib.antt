@@ -17,6 +17,7 @@ pub mod RangeLaws
 pub mod NaturalLaws
 pub mod FrameLaws
 pub mod ListedLaws
+pub mod OpenDayLaws
 pub mod EndLaws
 pub mod LevelLaws
 pub mod HouseLaws

@@ -94,8 +94,8 @@ listed-after b (release n x) p i = i
 listed-after b (setSpecial n x) p i = i
 listed-after b (setLimits n x) p i = i
 listed-after b (opening o) p i = record {
-  works = λ e. needed 4 tt (p .1 .0);
-  known = λ e. needed 4 tt (p .1 .1 .1 .0);
+  works = λ e. needed 19 tt (p .1 .0);
+  known = λ e. needed 21 tt (p .1 .1 .1 .0);
   lists = refl;
 }
 listed-after b (trade t) p i = i
@@ -209,7 +209,7 @@ module _ (b : Book) (o : Opening) (p : Passed (tests b (opening o))) where
   -- "later ones: the next working day after the one closed"
   next-day : b .today .point ≡ ended → nextWorking (working b) (b .today .day + 1) ≡ On (o .day)
   next-day e =
-      let n : isNext b (o .day) ≡ true = needed 4 tt (p .1 .1 .0) in
+      let n : isNext b (o .day) ≡ true = needed 20 tt (p .1 .1 .0) in
       on-is (o .day) (nextWorking (working b) (b .today .day + 1)) (rw e at n)
 
   pub open-later : closedDays (b .today .point) (b .today .day) ≤ o .day
@@ -235,7 +235,7 @@ module _ (b : Book) (o : Opening) (p : Passed (tests b (opening o))) where
       go settledToday e s works known h = clash s refl
       go ended e s works known h =
           let f = left-of (working b) (b .today .day) c h in
-          let k = needed 4 tt (p .1 .1 .1 .0) in
+          let k = needed 21 tt (p .1 .1 .1 .0) in
           code-stays (working b) (b .today .day) (o .day) c (known refl) k (works refl) (next-day e) (f .0) (f .1)
 
 -- ---- what has passed stays so

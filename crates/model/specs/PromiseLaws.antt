@@ -3,9 +3,10 @@ use mathlib.Core.List.{List}
 use Rattle.records.specs.Records.{Entry}
 use Rattle.model.specs.History.{run}
 use Rattle.model.specs.Promises.{Promises}
-use Rattle.model.specs.RefusalLaws.{refused-same, without-refused}
+use Rattle.model.specs.RefusalLaws.{without-refused}
 use Rattle.model.specs.TradeLaws.{trades-kept}
 use Rattle.model.specs.ListedLaws.{passed-unlisted, ended-passed, opens}
+use Rattle.model.specs.OpenDayLaws.{days-told, opens-only, refused-kept}
 use Rattle.model.specs.VariationLaws.{trade-by-trade, net-is}
 use Rattle.model.specs.ZeroLaws.{lots-cancel, variation-cancels}
 use Rattle.model.specs.MoneyLaws.{money-stays, house-owes, house-unpaid, all-contracts}
@@ -25,10 +26,12 @@ promises h = record {
   all-contracts = all-contracts h;
   deals = trades-kept (run h);
   closes = closes-kept h;
-  refusals = refused-same (run h);
+  refusals = refused-kept (run h) (known h .listed);
   without-refused = without-refused h;
   bounds = kept-bounded (known h);
   fits = sums-fit;
+  days-told = days-told (run h) (known h .listed);
+  opens-only = opens-only (run h);
   opens = opens (run h) (known h .listed) (known h .framed);
   ended-for-good = λ c e. passed-unlisted (run h) (known h .listed) c (ended-passed c h e);
 }

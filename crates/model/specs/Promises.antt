@@ -3,7 +3,8 @@
 use mathlib.Core.Path.{_≡_}
 use mathlib.Core.Bool.{true, false, cond}
 use mathlib.Core.List.{List, [], _∷_, _++_, map}
-use Prim.Native.Nat.{ℕ, suc}
+use mathlib.Core.Logic.{_⊎_}
+use Prim.Native.Nat.{ℕ, suc, _≤_, _<_}
 use lib.IntN.{ℤ, pos, _+ℤ_, _-ℤ_, _*ℤ_}
 use lib.ListN.{getD}
 use lib.Signed.{_≤ℤ_}
@@ -13,16 +14,19 @@ use Rattle.lists.specs.All.{All}
 use Rattle.whole.specs.Sums.{sumZ}
 use Rattle.whole.specs.Over.{sumOver}
 use Rattle.whole.specs.Larger.{larger}
+use Rattle.days.specs.declared.Day.the-variants.{NoDay}
+use Rattle.months.specs.Months.{months, settlementDay}
+use Rattle.calendar.specs.Listing.{isListed as listedOn, settles}
 use Rattle.records.specs.Records.{Entry}
 use Rattle.rates.specs.Rules as rules
 use Rattle.positions.specs.Deals.{Deal, lotsOf}
 use Rattle.booking.specs.Variation.{variationOf}
 use Rattle.holdings.specs.declared.Totals.{Totals}
-use Rattle.model.specs.Book.{Book, isMember, isListed}
+use Rattle.model.specs.Book.{Book, unopened, ended, isMember, isListed, working}
 use Rattle.model.specs.Calls.{Trade, Opening, callOf, opening, trade, close}
 use Rattle.model.specs.Effects.{codesOn, isEnding}
 use Rattle.model.specs.Refusals.{refusal}
-use Rattle.model.specs.Answers.{called, Answer, answer, refused, bothSides, report, reportOf}
+use Rattle.model.specs.Answers.{called, Answer, answer, bothSides, report, reportOf, refusalOf}
 use Rattle.model.specs.History.{Step, run, log, acceptedOf, Dated, trades, closedTrades, todaysTrades, todaysQuotes, tradesIn, quotesIn, ownTrades, dealFor, dealsOf, booked, bookedTo, latest, hasEnded, paidIn, paidOut, movedTo, variationIn}
 use Rattle.model.specs.Bounds.{totalIn, limitIn, Bounded, SumsFit}
 
@@ -45,6 +49,36 @@ amountOf n rate (carriedOver net previous) = net *ℤ (pos 250 *ℤ (rate -ℤ p
 
 abbrev pub linesOf : ℕ → ℕ → List Dated → ℤ → ℤ → List Line
 linesOf n c today net previous = map (λ d. madeToday (d .deal)) (ownTrades n c today) ++ (carriedOver net previous ∷ [])
+
+-- ---- a refused call
+-- "the next working day after the one closed": it works, and no day between the two does
+pub record NextDay (b : Book) (d : ℕ) : Type 0 where
+  pub closed : b .today .point ≡ ended
+  pub later : b .today .day < d
+  pub inside : d ≤ 3652
+  pub works : working b d ≡ true
+  pub first : (k : ℕ) → b .today .day < k → k < d → working b k ≡ false
+
+-- "A refusal returns its number .. and changes nothing." Request L2: "20 returns the expected day". No other returns more than its number
+pub record RefusedKept (b after : Book) (a : Answer) (n : ℕ) : Type 0 where
+  pub stays : after ≡ b
+  pub number : refusalOf a .number ≡ n
+  pub alone : (n ≡ 20 → ⊥) → refusalOf a .values ≡ []
+  pub expects : n ≡ 20 → (d : ℕ) × ((refusalOf a .values ≡ d ∷ []) × NextDay b d)
+
+-- ---- the day of an open, by what the open is answered
+-- "First open: any working day; later ones: the next working day after the one closed."
+abbrev pub InTurn : Book → ℕ → Type 0
+InTurn b day = (b .today .point ≡ unopened) ⊎ NextDay b day
+
+-- Request L2: "tested in that order: a day off, not the next working day, a listed month without a settlement day in the calendar". 0 is none of
+-- these, and "4 is no longer given"
+pub record DayTold (b : Book) (day n : ℕ) : Type 0 where
+  pub off : n ≡ 19 → working b day ≡ false
+  pub not-next : n ≡ 20 → (working b day ≡ true) × ((d : ℕ) × (NextDay b d × (day ≡ d → ⊥)))
+  pub unsettled : n ≡ 21 → (working b day ≡ true) × (InTurn b day × ((m : ℕ) × ((listedOn (working b) day m ≡ true) × (settlementDay (working b) m ≡ NoDay))))
+  pub none : n ≡ 0 → (working b day ≡ true) × (InTurn b day × ((m : ℕ) → m < months → listedOn (working b) day m ≡ true → settles (working b) m ≡ true))
+  pub not-four : n ≡ 4 → ⊥
 
 -- ---- an accepted trade
 -- Demand 3: "no accepted trade lifts a total above both its limit and the total before".
@@ -120,11 +154,14 @@ pub record Promises (h : List Entry) : Type 0 where
   pub closes : (e : Entry) (final : ℤ) → refusal (run h) e ≡ 0 → callOf e ≡ close final
       → CloseKept (run h) (called (run h) e) (answer (run h) e) (log h) final
   -- 6. "A refusal returns its number .. and changes nothing."
-  pub refusals : (e : Entry) (k : ℕ) → refusal (run h) e ≡ suc k → (called (run h) e ≡ run h) × (answer (run h) e ≡ refused (suc k))
+  pub refusals : (e : Entry) (k : ℕ) → refusal (run h) e ≡ suc k → RefusedKept (run h) (called (run h) e) (answer (run h) e) (suc k)
   pub without-refused : (run (acceptedOf h) ≡ run h) × (log (acceptedOf h) ≡ log h)
   -- 7. "These ceilings let every sum fit signed 64 bits over the calendar's life"
   pub bounds : Bounded (run h)
   pub fits : SumsFit
+  -- 19 to 21 are given to opens only, and tell which day is wrong
+  pub days-told : (e : Entry) (o : Opening) → callOf e ≡ opening o → DayTold (run h) (o .day) (refusal (run h) e)
+  pub opens-only : (e : Entry) → 18 < refusal (run h) e → (o : Opening) × (callOf e ≡ opening o)
   -- "Opening removes and lists accordingly"; a code that has ended is never listed again
   pub opens : (e : Entry) (o : Opening) → refusal (run h) e ≡ 0 → callOf e ≡ opening o → OpenKept (run h) (called (run h) e) o
   pub ended-for-good : (c : ℕ) → hasEnded c (log h) ≡ true → isListed (run h) c ≡ false

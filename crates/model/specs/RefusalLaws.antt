@@ -7,12 +7,12 @@ use Rattle.model.specs.Book.{Book}
 use Rattle.model.specs.Calls.{Call, callOf}
 use Rattle.model.specs.Effects.{after}
 use Rattle.model.specs.Refusals.{refusal}
-use Rattle.model.specs.Answers.{kept, called, accepts, answer, refused}
+use Rattle.model.specs.Answers.{kept, called, accepts, refusing, answer}
 use Rattle.model.specs.History.{runFrom, run, log, noted, keptCall, acceptedOf}
 
 -- ---- one call
 module _ (b : Book) (e : Entry) where
-  pub refused-same : (k : ℕ) → refusal b e ≡ suc k → (called b e ≡ b) × (answer b e ≡ refused (suc k))
+  pub refused-same : (k : ℕ) → refusal b e ≡ suc k → (called b e ≡ b) × (answer b e ≡ refusing b (suc k))
   unfolding called answer
   refused-same k r = (rw r, rw r)
 

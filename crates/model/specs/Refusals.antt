@@ -4,6 +4,7 @@ use mathlib.Core.List.{List, [], _∷_}
 use Prim.Native.Nat.{ℕ, zero, suc, _+_}
 use lib.Dec.{eqb, leb, ltb}
 use lib.ListN.{length}
+use Rattle.days.specs.declared.Day.{Day}
 use Rattle.days.specs.Days.{accepted, nextWorking, isOn, isWorking}
 use Rattle.calendar.specs.Listing.{listing}
 use Rattle.ranges.specs.Ranges as ranges
@@ -67,13 +68,16 @@ allowed p refresh = isSettled p
 allowed p (close final) = isSettled p
 allowed p unknown = false
 
--- ---- 4 and 10
+-- ---- 20 and 10
 -- "First open: any working day; later ones: the next working day after the one closed."
-abbrev isFirst : Point → Bool
+abbrev pub isFirst : Point → Bool
 isFirst p = eqb (stage p) 1
 
+abbrev pub expected : Book → Day
+expected b = nextWorking (working b) (b .today .day + 1)
+
 abbrev pub isNext : Book → ℕ → Bool
-isNext b day = isFirst (b .today .point) || isOn day (nextWorking (working b) (b .today .day + 1))
+isNext b day = isFirst (b .today .point) || isOn day (expected b)
 
 -- "Hours are 9:00:00 to 12:00:00 and 13:30:00 to 16:30:00, first seconds included, last ones .. not."
 abbrev pub inHours : ℕ → Bool
@@ -93,7 +97,8 @@ abbrev hasQuoteRoom : Book → Quote → Bool
 hasQuoteRoom b q = not (inLastHour (q .time)) || ltb (sideIn (b .contracts .tally (q .code)) (q .side) .weight) 10000
 
 -- ---- in document 01's order: "1, 2, 3; then for a trade 8, 5, 11, 10, 9, 16, 12, 13, 14; for a quote 8, 10, 9, 16;
--- otherwise rising number". 1 belongs to bytes.
+-- otherwise rising number". 1 belongs to bytes. Request L2: "4 is no longer given; 19, 20, 21 take its place in the order", "tested in that order:
+-- a day off, not the next working day, a listed month without a settlement day in the calendar".
 abbrev later : Book → Call → List ℕ
 later b (start s) = needs (accepted (isWorking (s .exceptions))) 18 ∷ []
 later b (enrol n l) = needs (not (isMember b n)) 6 ∷ needs (ltb (length (b .accounts .members)) 64) 7 ∷ []
@@ -103,9 +108,9 @@ later b (release n x) = needs (isMember b n) 5 ∷ funds.refusalOf (funds.releas
 later b (setSpecial n x) = needs (isMember b n) 5 ∷ []
 later b (setLimits n l) = needs (isMember b n) 5 ∷ []
 later b (opening o) =
-    needs (working b (o .day)) 4 ∷
-    needs (isNext b (o .day)) 4 ∷
-    needs (listing (working b) (o .day) .known) 4 ∷ []
+    needs (working b (o .day)) 19 ∷
+    needs (isNext b (o .day)) 20 ∷
+    needs (listing (working b) (o .day) .known) 21 ∷ []
 later b (trade t) =
     needs (isListed b (t .code)) 8 ∷
     needs (isMember b (t .buyer)) 5 ∷

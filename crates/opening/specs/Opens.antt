@@ -1,11 +1,17 @@
--- Whether a day may open, told of the exceptions and of the header.
-use mathlib.Core.Bool.{Bool, _&&_, _||_}
-use mathlib.Core.List.{List}
-use Prim.Native.Nat.{ℕ, _+_}
-use lib.Dec.{eqb}
-use Rattle.days.specs.Days.{isWorking, nextWorking, isOn}
-use Rattle.memory.specs.declared.header_row.Header.{Header}
+-- What an open answers.
+use Rattle.days.specs.declared.Day.{Day}
+use Rattle.days.specs.declared.Day.the-variants.{On, NoDay}
+use Rattle.model.specs.Answers.{Answer, refused, notNext, done}
+use Rattle.opening.specs.declared.dates.Opened.{Opened}
+use Rattle.opening.specs.declared.dates.Opened.the-variants.{Done, Refused, NotNext}
 
--- "First open: any working day; later ones: the next working day after the one closed."
-abbrev pub opensOn : List ℕ → Header → ℕ → Bool
-opensOn exceptions h day = isWorking exceptions day && (eqb (h .point) 1 || isOn day (nextWorking (isWorking exceptions) (h .day + 1)))
+-- an open's answer in document 01's words
+abbrev pub answerOf : Opened → Answer
+answerOf Done = done
+answerOf (Refused number) = refused number
+answerOf (NotNext day) = notNext day
+
+-- Request L2: "20 returns the expected day"
+abbrev pub notNextAs : Day → Opened
+notNextAs (On d) = NotNext d
+notNextAs NoDay = Refused 20

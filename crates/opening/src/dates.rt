@@ -1,14 +1,17 @@
-// Whether a day may open.
+// Whether a day may open, and what is answered where it is another's turn.
 ghost use mathlib.Core.Path.{_≡_};
-ghost use mathlib.Core.Bool.{true, _||_};
-ghost use Prim.Native.Nat.{_≤_};
+ghost use mathlib.Core.Bool.{_||_};
 ghost use lib.Dec.{eqb};
-ghost use Rattle.days.specs.Days.{rising};
-ghost use Rattle.opening.specs.Opens.{opensOn};
+ghost use Rattle.days.specs.Days.{isOn};
+ghost use Rattle.opening.specs.Opens.{notNextAs};
 use days::Day;
-use days::is_working;
-use days::next_working;
-use memory::Header;
+
+// What an open answers: that it is done, the number of its refusal, or that the day is not the next working day, with the day that is.
+pub enum Opened {
+    Done,
+    Refused(u64),
+    NotNext(u64),
+}
 
 // Whether the book stands before its first day or between two.
 pub(crate) fn is_shut(point: u64) -> bool
@@ -20,19 +23,25 @@ pub(crate) fn is_shut(point: u64) -> bool
     point == 4
 }
 
-// Whether a day works and is the book's first or the next after the one closed.
-pub(crate) fn opens_on(exceptions: &[u64], h: Header, day: u64) -> bool
-    requires { ⌜ (rising (now exceptions) ≡ true) × (h .day ≤ 3652) ⌝ }
-    ensures { λ r. ⌜ r ≡ opensOn (now (exceptions .entry)) h day ⌝ }
+// Whether a day is the book's first or the one expected after the one closed.
+pub(crate) fn is_next(point: u64, expected: Day, day: u64) -> bool
+    ensures { λ r. ⌜ r ≡ (eqb point 1 || isOn day expected) ⌝ }
 {
-    if !is_working(exceptions, day) {
-        return false;
-    }
-    if h.point == 1 {
+    if point == 1 {
         return true;
     }
-    match next_working(exceptions, h.day + 1) {
+    match expected {
         Day::On(d) => day == d,
         Day::NoDay => false,
+    }
+}
+
+// Refusal 20 with the day expected. A closed day always has a working day after it, so the number never stands alone.
+pub(crate) fn not_next(expected: Day) -> Opened
+    ensures { λ r. ⌜ r ≡ notNextAs expected ⌝ }
+{
+    match expected {
+        Day::On(d) => Opened::NotNext(d),
+        Day::NoDay => Opened::Refused(20),
     }
 }

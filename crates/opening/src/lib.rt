@@ -1,17 +1,22 @@
 // The open of a day: the day is tested, and its codes are listed in the place of those listed so far (document 01, 'The day').
 ghost use mathlib.Core.Path.{_≡_};
 ghost use Rattle.model.specs.Calls.{opening as openingCall};
-ghost use Rattle.standing.specs.Made.{Sound, Made};
+ghost use Rattle.standing.specs.Made.{Sound, Answered};
 ghost use Rattle.standing.specs.OpenRows.{openHeader};
+ghost use Rattle.opening.specs.Opens.{answerOf};
 
 mod dates;
 mod listed;
 mod members;
 
+use crate::dates::is_next;
 use crate::dates::is_shut;
-use crate::dates::opens_on;
+use crate::dates::not_next;
 use crate::listed::relist;
 use calendar::listed_on;
+pub use dates::Opened;
+use days::is_working;
+use days::next_working;
 use memory::Header;
 use memory::load_header;
 use memory::store_header;
@@ -34,33 +39,36 @@ fn open_header(h: Header, day: u64) -> Header
     }
 }
 
-// Opens a day, with the list rates and margin rates of its codes, by rising code. Answers the number of the refusal, 0 where the
-// open is accepted.
+// Opens a day, with the list rates and margin rates of its codes, by rising code.
 pub fn open_day(
     counts: &mut [u64],
     money: &mut [i64],
     day: u64,
     rates: [i64; 6],
     margins: [u64; 6],
-) -> u64
+) -> Opened
     requires { ⌜ Sound (now counts) (now money) ⌝ }
-    ensures { λ r. ⌜ Made (now (counts .entry)) (now (money .entry)) (openingCall (record { day = day; rates = rates; margins = margins })) r (now (counts .exit)) (now (money .exit)) ⌝ }
+    ensures { λ r. ⌜ Answered (now (counts .entry)) (now (money .entry)) (openingCall (record { day = day; rates = rates; margins = margins })) (answerOf r) (now (counts .exit)) (now (money .exit)) ⌝ }
 {
     let h = load_header(&counts[..]);
     if !is_shut(h.point) {
-        return 3;
+        return Opened::Refused(3);
     }
     let n = h.exceptions as usize;
-    if !opens_on(&counts[10..10 + n], h, day) {
-        return 4;
+    if !is_working(&counts[10..10 + n], day) {
+        return Opened::Refused(19);
+    }
+    let expected = next_working(&counts[10..10 + n], h.day + 1);
+    if !is_next(h.point, expected, day) {
+        return not_next(expected);
     }
     let listing = listed_on(&counts[10..10 + n], day);
     if !listing.known {
-        return 4;
+        return Opened::Refused(21);
     }
     let codes = listing.codes;
     relist(&mut *counts, &mut *money, codes, rates, margins);
     let g = open_header(h, day);
     store_header(&mut *counts, g);
-    0
+    Opened::Done
 }

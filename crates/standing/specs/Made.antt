@@ -7,7 +7,7 @@ use Rattle.memory.specs.Memory.{Holds}
 use Rattle.model.specs.Book.{Book}
 use Rattle.model.specs.Calls.{Call}
 use Rattle.model.specs.Refusals.{firstOf, tests}
-use Rattle.model.specs.Answers.{kept}
+use Rattle.model.specs.Answers.{Answer, kept, answered}
 use Rattle.model.specs.Kept.{Kept}
 use Rattle.standing.specs.Standing.{rowsOf, view}
 
@@ -24,3 +24,8 @@ decided b c = firstOf (tests b c)
 pub record Made (counts : List ℕ) (money : List ℤ) (c : Call) (number : ℕ) (counts′ : List ℕ) (money′ : List ℤ) : Type 0 where
   pub answers : number ≡ decided (view counts money) c
   pub memory : Holds counts′ money′ (rowsOf (kept number (view counts money) c))
+
+-- a call with an answer of its own: the answer is the model's, and the memory after it is that of the book after the call
+pub record Answered (counts : List ℕ) (money : List ℤ) (c : Call) (a : Answer) (counts′ : List ℕ) (money′ : List ℤ) : Type 0 where
+  pub answers : let b = view counts money in a ≡ answered (decided b c) b c
+  pub memory : let b = view counts money in Holds counts′ money′ (rowsOf (kept (decided b c) b c))

@@ -17,13 +17,13 @@ use Rattle.model.specs.Book.{Book, Settings, Today, Terms, noTerms, noTally, no
 use Rattle.model.specs.Calls.{Opening, opening, callOf}
 use Rattle.model.specs.Effects.{openedWith, after}
 use Rattle.model.specs.Refusals.{refusal}
-use Rattle.model.specs.Answers.{called, answer}
+use Rattle.model.specs.Answers.{called, refusing, answer}
 use Rattle.model.specs.History.{runFrom, run, answersTo}
 use Rattle.model.specs.RefusalLaws.{refused-same, accepted-called}
 use Rattle.model.specs.Kept.{Framed}
 use Rattle.model.specs.FrameLaws.{framed-new}
 use Rattle.model.specs.KeptLaws.{known}
-use Rattle.model.specs.Examples.{Line, ok, not-ok, linesOf, linesTo, printed}
+use Rattle.model.specs.Examples.{Line, ok, linesOf, linesTo, printed}
 use Rattle.tables.specs.Tables.{Table, book, tabled, moved, walk}
 
 -- ---- a book with one form is that of its tables
@@ -106,9 +106,9 @@ reached-part es h t t′ lines more r e = rw e at (reached-walk es h t lines r)
 
 -- ---- one call, where the prover is told what it cannot compute on its way
 module _ (t : Table) (e : Entry) where
-  pub refused-walk : (k : ℕ) → refusal (book t) e ≡ suc k → walk (e ∷ []) t ≡ record { lines = not-ok (e .kind) (suc k) ∷ []; table = t }
+  pub refused-walk : (k : ℕ) → refusal (book t) e ≡ suc k → walk (e ∷ []) t ≡ record { lines = linesOf (e .kind) (refusing (book t) (suc k)); table = t }
   unfolding walk answer
-  refused-walk k r = rw r
+  refused-walk k r = rw (r, append-nil)
 
   pub opened-walk : (o : Opening) (codes : List ℕ) → refusal (book t) e ≡ 0 → callOf e ≡ opening o
       → listing (working (book t)) (o .day) ≡ record { known = true; codes = codes }

@@ -43,7 +43,7 @@ returns-2 c =
     let s = c .before .before .before .before .before .before .before .before .before in
     let most = c .before .before .before .before .if1 .taken in
     answered-called (s .pre) _ (passed (c .before .before .before .before .before))
-    (rw (c .numbered .ensures) (made-answered Done (sym (first-done _ _ _ _ most)) (c .before .call-account .ensures)))
+    (let f = first-done _ _ _ _ most in rw (c .numbered .ensures) (made-answered Done (f .1) (sym (f .0)) (c .before .call-account .ensures)))
 
 call-day-requires : tie.Need-call-day-requires
 call-day-requires c κs =

@@ -1,11 +1,12 @@
 -- Each arm's call is the record's, by its kind, and what the callee asks is what the range check says of that call.
 use mathlib.Core.Path.{_≡_, refl}
+use native.Mathlib.Nat.{suc-ne-zero}
 use native.Mathlib.Omega.{arith}
 use borrow.Author.Needs.{needs}
 use Rattle.whole.specs.Machine.{told}
 use Rattle.model.specs.Calls.{callOf}
 use Rattle.book.specs.declared.calls.Answer.the-variants.{Done, Closed}
-use Rattle.book.specs.CalledLaws.{made-answered, traded-dealt}
+use Rattle.book.specs.CalledLaws.{made-answered, traded-dealt, open-answered}
 use Rattle.book.specs.KindLaws.{kind-most}
 use Rattle.book.proofs.calls.call_day.Statement.{statement}
 use Rattle.book.proofs.calls.call_day.Tie as tie
@@ -29,8 +30,8 @@ array-read-open-day c = search needs
 open-day-requires : tie.Need-open-day-requires
 open-day-requires c κs = search needs
 
-numbered-requires : tie.Need-numbered-requires
-numbered-requires c κs = search needs
+opened-requires : tie.Need-opened-requires
+opened-requires c κs = search needs
 
 deal-in-requires : tie.Need-deal-in-requires
 deal-in-requires c κs = search needs
@@ -66,20 +67,20 @@ quote-requires c κs =
     let u = c .before .before .«unfold» in
     (s .pre .0, rw (told (u .result) (u .ok), u .ensures) (rw (c .before .before .before .match .keys3) at (s .pre .1 .0)))
 
-numbered-requires-2 : tie.Need-numbered-requires-2
-numbered-requires-2 c κs = search needs
+numbered-requires : tie.Need-numbered-requires
+numbered-requires c κs = search needs
 
 settle-requires : tie.Need-settle-requires
 settle-requires c κs = search needs
 
-numbered-requires-3 : tie.Need-numbered-requires-3
-numbered-requires-3 c κs = search needs
+numbered-requires-2 : tie.Need-numbered-requires-2
+numbered-requires-2 c κs = search needs
 
 refresh-requires : tie.Need-refresh-requires
 refresh-requires c κs = search needs
 
-numbered-requires-4 : tie.Need-numbered-requires-4
-numbered-requires-4 c κs = search needs
+numbered-requires-3 : tie.Need-numbered-requires-3
+numbered-requires-3 c κs = search needs
 
 array-read-unfold-2 : tie.Need-array-read-unfold-2
 array-read-unfold-2 c = search needs
@@ -94,44 +95,44 @@ close-requires c κs =
     let u = c .before .before .unfold2 in
     (s .pre .0, rw (told (u .result) (u .ok), u .ensures) (rw (twelve (c .before .before .before)) at (s .pre .1 .0)))
 
-numbered-requires-5 : tie.Need-numbered-requires-5
-numbered-requires-5 c κs = search needs
+numbered-requires-4 : tie.Need-numbered-requires-4
+numbered-requires-4 c κs = search needs
 
 returns : tie.Need-returns
 unfolding callOf
 returns c =
     let rates = c .before .before .before .before .before .rates-in .ensures in
     let margins = c .before .before .before .before .margins-in .ensures in
-    rw (c .before .before .before .before .before .before .match .keys1, c .numbered .ensures)
-    (made-answered Done refl (rw (rates, margins) at (c .before .open-day .ensures)))
+    rw (c .before .before .before .before .before .before .match .keys1, c .opened .ensures)
+    (open-answered (c .before .open-day .result) (rw (rates, margins) at (c .before .open-day .ensures)))
 
 returns-2 : tie.Need-returns-2
 unfolding callOf
 returns-2 c =
     rw (c .before .before .before .before .before .match .keys2, c .dealt .ensures)
-    (traded-dealt (rw (c .before .before .before .before .deal-in .ensures) at (c .before .trade .ensures)))
+    (traded-dealt (c .before .trade .result) (rw (c .before .before .before .before .deal-in .ensures) at (c .before .trade .ensures)))
 
 returns-3 : tie.Need-returns-3
 unfolding callOf
 returns-3 c =
     let u = c .before .before .before .before .«unfold» in
-    rw (c .before .before .before .before .before .match .keys3, c .numbered2 .ensures)
-    (made-answered Done refl (rw (told (u .result) (u .ok), u .ensures) at (c .before .quote .ensures)))
+    rw (c .before .before .before .before .before .match .keys3, c .numbered .ensures)
+    (made-answered Done (λ o q. suc-ne-zero 0 cc) refl (rw (told (u .result) (u .ok), u .ensures) at (c .before .quote .ensures)))
 
 returns-4 : tie.Need-returns-4
 unfolding callOf
-returns-4 c = rw (c .before .before .before .before .match .keys4, c .numbered3 .ensures) (made-answered Done refl (c .before .settle .ensures))
+returns-4 c = rw (c .before .before .before .before .match .keys4, c .numbered2 .ensures) (made-answered Done (λ o q. suc-ne-zero 0 cc) refl (c .before .settle .ensures))
 
 returns-5 : tie.Need-returns-5
 unfolding callOf
-returns-5 c = rw (c .before .before .before .before .match .keys5, c .numbered4 .ensures) (made-answered Done refl (c .before .refresh .ensures))
+returns-5 c = rw (c .before .before .before .before .match .keys5, c .numbered3 .ensures) (made-answered Done (λ o q. suc-ne-zero 0 cc) refl (c .before .refresh .ensures))
 
 returns-6 : tie.Need-returns-6
 unfolding callOf
 returns-6 c =
     let u = c .before .before .before .before .unfold2 in
-    rw (twelve (c .before .before .before .before .before), c .numbered5 .ensures)
-    (made-answered Closed refl (rw (told (u .result) (u .ok), u .ensures) at (c .before .close .ensures)))
+    rw (twelve (c .before .before .before .before .before), c .numbered4 .ensures)
+    (made-answered Closed (λ o q. suc-ne-zero 0 cc) refl (rw (told (u .result) (u .ok), u .ensures) at (c .before .close .ensures)))
 
 pub call-day-spec : {M : Type 1} → statement M
 call-day-spec =
@@ -141,7 +142,7 @@ call-day-spec =
     margins-in-requires
     array-read-open-day
     open-day-requires
-    numbered-requires
+    opened-requires
     deal-in-requires
     trade-requires
     dealt-requires
@@ -151,15 +152,15 @@ call-day-spec =
     array-read-quote-2
     array-read-quote-3
     quote-requires
-    numbered-requires-2
+    numbered-requires
     settle-requires
-    numbered-requires-3
+    numbered-requires-2
     refresh-requires
-    numbered-requires-4
+    numbered-requires-3
     array-read-unfold-2
     unfold-requires-2
     close-requires
-    numbered-requires-5
+    numbered-requires-4
     returns
     returns-2
     returns-3

@@ -2,52 +2,26 @@ use mathlib.Core.List.{[], _∷_}
 use native.Mathlib.Omega.{arith}
 use borrow.Author.Needs.{needs}
 use Rattle.decimal.specs.Decimal.{numeral}
-use Rattle.decimal.specs.PutLaws.{numeral-length}
 use Rattle.lines.specs.Lines.{no}
-use Rattle.lines.specs.LineLaws.{Begun, begun, room-left, field-more, number-more, line-ends}
+use Rattle.lines.specs.LineLaws.{Begun, begun-with, room-left, line-ends}
+use Rattle.lines.specs.LengthLaws.{refusal-length}
 use Rattle.lines.proofs.answers.put_refused.Statement.{statement}
 use Rattle.lines.proofs.answers.put_refused.Tie as tie
 
-abbrev start : tie.After-put-number → tie.Start
+abbrev start : tie.After-put-refusal → tie.Start
 start c = c .before .before .before
 
-abbrev kind : tie.After-put-word → tie.After-put-number
-kind c = c .before .before .before .before .before
-
-abbrev word : tie.After-put-field → tie.After-put-word
-word c = c .before .before .before .before
-
-with-kind : (c : tie.After-put-number) →
-    let a = start c .args in Begun (a .room .now) (a .at) (numeral (a .kind)) [] 20 (c .put-number .result) (c .put-number .last .0)
-with-kind c = begun (omega (arith, start c .pre)) (numeral-length (start c .args .kind)) (c .put-number .ensures)
-
-with-word : (c : tie.After-put-word) →
-    let a = start (kind c) .args in
-    Begun (a .room .now) (a .at) (numeral (a .kind)) (no ∷ []) 23 (c .put-word .result) (c .put-word .last .0)
-with-word c = field-more (with-kind (kind c)) 2 (omega (arith, start (kind c) .pre)) (omega arith) (c .put-word .ensures)
-
-with-number : (c : tie.After-put-field) →
-    let a = start (kind (word c)) .args in
-    Begun (a .room .now) (a .at) (numeral (a .kind)) (no ∷ numeral (a .number) ∷ []) 44 (c .put-field .result) (c .put-field .last .0)
+with-number : (c : tie.After-put-refusal) →
+    let a = start c .args in
+    Begun (a .room .now) (a .at) (numeral (a .kind)) (no ∷ numeral (a .number) ∷ []) 44 (c .put-refusal .result) (c .put-refusal .last .0)
 with-number c =
-    let s = start (kind (word c)) in number-more (with-word (word c)) (s .args .number) (omega (arith, s .pre)) (c .put-field .ensures)
+    let s = start c in begun-with (omega (arith, s .pre)) (refusal-length (s .args .kind) (s .args .number)) (c .put-refusal .ensures)
 
-put-number-requires : tie.Need-put-number-requires
-put-number-requires c κs = search needs
-
-slice-aggregate-put-word : tie.Need-slice-aggregate-put-word
-slice-aggregate-put-word c = search needs
-
-put-word-requires : tie.Need-put-word-requires
-put-word-requires c κs =
-    let k = c .before .before .before .before in room-left (with-kind k) 3 (omega (arith, start k .pre))
-
-put-field-requires : tie.Need-put-field-requires
-put-field-requires c κs = let w = c .before .before .before in room-left (with-word w) 21 (omega (arith, start (kind w) .pre))
+put-refusal-requires : tie.Need-put-refusal-requires
+put-refusal-requires c κs = search needs
 
 put-end-requires : tie.Need-put-end-requires
-put-end-requires c κs =
-    let field = c .before .before .before in room-left (with-number field) 1 (omega (arith, start (kind (word field)) .pre))
+put-end-requires c κs = let n = c .before .before .before in room-left (with-number n) 1 (omega (arith, start n .pre))
 
 same-length : tie.Need-same-length
 same-length c = search needs
@@ -55,17 +29,8 @@ same-length c = search needs
 returns : tie.Need-returns
 returns c =
     let end = c .before .before in
-    let field = end .before .before .before .before in
-    line-ends (with-number field) (omega (arith, start (kind (word field)) .pre)) (end .put-end .ensures)
+    let n = end .before .before .before .before in
+    line-ends (with-number n) (omega (arith, start n .pre)) (end .put-end .ensures)
 
 pub put-refused-spec : {M : Type 1} → statement M
-put-refused-spec =
-    tie.close
-    (tie.spec
-    put-number-requires
-    slice-aggregate-put-word
-    put-word-requires
-    put-field-requires
-    put-end-requires
-    same-length
-    returns)
+put-refused-spec = tie.close (tie.spec put-refusal-requires put-end-requires same-length returns)

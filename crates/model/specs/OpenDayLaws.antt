@@ -1,0 +1,238 @@
+-- The day of an open: what the number that the open is answered tells of it, and the day that is expected.
+use mathlib.Core.Path.{_≡_, refl, sym, ap, _∙_, subst}
+use mathlib.Core.Bool.{Bool, true, false, cond}
+use mathlib.Core.List.{List, [], _∷_}
+use mathlib.Core.Logic.{inl, inr}
+use Prim.Native.Nat.{ℕ, zero, suc, _+_, _-_, _≤_, _<_}
+use native.Mathlib.Omega.{arith}
+use borrow.Author.Tests.{ltb-true, eqb-true, eqb-false, ne-eqb}
+use lib.Dec.{T, eqb, ltb}
+use Rattle.lists.specs.HasLaws.{byTest, clash, or-skip}
+use Rattle.days.specs.declared.Day.{Day}
+use Rattle.days.specs.declared.Day.the-variants.{On, NoDay}
+use Rattle.days.specs.Days.{days, isOn}
+use Rattle.days.specs.DayLaws.{first-of, first-misses, first-is}
+use Rattle.calendar.specs.Listing.{listing}
+use Rattle.calendar.specs.ListingLaws.{known-settles, unknown-settles}
+use Rattle.calendar.specs.CodeLaws.{settles-later}
+use Rattle.ranges.specs.Ranges as ranges
+use Rattle.ranges.specs.declared.Checked.the-variants.{Passed, Refused}
+use Rattle.funds.specs.Funds as funds
+use Rattle.funds.specs.declared.Payment.{Payment}
+use Rattle.funds.specs.declared.Payment.the-variants.{Made, InDefault, TooMuch, Full}
+use Rattle.records.specs.Records.{Entry}
+use Rattle.model.specs.Book.{Book, Point, unstarted, unopened, unsettled, settledToday, ended, working}
+use Rattle.model.specs.Calls.{Call, start, enrol, payIn, payOut, release, setSpecial, setLimits, opening, trade, quote, settle, refresh, close, unknown, Opening, callOf}
+use Rattle.model.specs.Refusals.{needs, firstOf, isShut, isFirst, expected, isNext, ranged, tests, refusal}
+use Rattle.model.specs.Answers.{called, refused, expecting, refusing, answer, refusalOf}
+use Rattle.model.specs.Promises.{NextDay, RefusedKept, InTurn, DayTold}
+use Rattle.model.specs.Kept.{isDated, Listed}
+use Rattle.model.specs.RefusalLaws.{refused-same}
+
+-- ---- the day expected
+-- it is the only next working day
+pub next-is : (b : Book) (d : ℕ) → NextDay b d → expected b ≡ On d
+next-is b d n =
+    first-is (working b) (days - (b .today .day + 1)) (b .today .day + 1) d
+    (omega (arith, n .later)) (omega (arith, n .later, n .inside)) (n .works) (λ k h l. n .first k (omega arith) l)
+
+first-unopened : (p : Point) → isFirst p ≡ true → p ≡ unopened
+first-unopened unstarted e = clash e refl
+first-unopened unopened e = refl
+first-unopened unsettled e = clash e refl
+first-unopened settledToday e = clash e refl
+first-unopened ended e = clash e refl
+
+later-ended : (p : Point) → isShut p ≡ true → isFirst p ≡ false → p ≡ ended
+later-ended unstarted s e = clash s refl
+later-ended unopened s e = clash refl e
+later-ended unsettled s e = clash s refl
+later-ended settledToday s e = clash s refl
+later-ended ended s e = refl
+
+module _ (b : Book) (i : Listed b) where
+  -- a closed day has one: its listed months settle after it
+  next-day : b .today .point ≡ ended → (d : ℕ) × ((expected b ≡ On d) × NextDay b d)
+  next-day e = go (expected b) refl
+    where
+      go : (a : Day) → expected b ≡ a → (d : ℕ) × ((expected b ≡ On d) × NextDay b d)
+      go (On d) q =
+          let f = first-of (working b) (days - (b .today .day + 1)) (b .today .day + 1) d q in
+          let late = f .from in
+          let most = f .below in (
+            d,
+            (
+              q,
+              record {
+                closed = e;
+                later = omega arith;
+                inside = omega arith;
+                works = f .works;
+                first = λ k h l. f .skips k (omega arith) l;
+              },
+            ),
+          )
+      go NoDay q =
+          let l = settles-later (working b) (b .today .day) (i .known (ap isDated e)) in
+          let after = l .1 .0 in
+          let below = l .1 .1 .0 in
+          clash (l .1 .1 .1) (first-misses (working b) (days - (b .today .day + 1)) (b .today .day + 1) q (l .0) (omega arith) (omega arith))
+
+  -- ---- what the tests tell of a day
+  module _ (day : ℕ) (shut : isShut (b .today .point) ≡ true) where
+    in-turn : isNext b day ≡ true → InTurn b day
+    in-turn x = byTest (isFirst (b .today .point))
+        (λ f. inl (first-unopened (b .today .point) f))
+        (λ f. let n = next-day (later-ended (b .today .point) shut f) in
+        let on = or-skip (isFirst (b .today .point)) (isOn day (expected b)) f x in
+        inr (subst (NextDay b) (sym (eqb-true day (n .0) (ap (isOn day) (sym (n .1 .0)) ∙ on))) (n .1 .1)))
+
+    out-of-turn : isNext b day ≡ false → (d : ℕ) × (NextDay b d × (day ≡ d → ⊥))
+    out-of-turn x = byTest (isFirst (b .today .point))
+        (λ f. clash (rw f) x)
+        (λ f. let n = next-day (later-ended (b .today .point) shut f) in
+        (n .0, (n .1 .1, eqb-false day (n .0) (sym (rw (f, n .1 .0)) ∙ x))))
+
+  module _ (day : ℕ) where
+    -- 2 and 3 tell nothing of the day
+    other-told : (n : ℕ) → 0 < n → n < 4 → DayTold b day n
+    other-told n h l = record {
+      off = λ e. absurd (omega arith);
+      not-next = λ e. absurd (omega arith);
+      unsettled = λ e. absurd (omega arith);
+      none = λ e. absurd (omega arith);
+      not-four = λ e. absurd (omega arith);
+    }
+
+    told : (r : ℕ) → r ≤ 2 → (s t u v : Bool) → isShut (b .today .point) ≡ s → working b day ≡ t → isNext b day ≡ u
+        → listing (working b) day .known ≡ v
+        → DayTold b day (firstOf (r ∷ needs s 3 ∷ needs t 19 ∷ needs u 20 ∷ needs v 21 ∷ []))
+    unfolding firstOf
+    told (suc r) h s t u v shut works next known = other-told (suc r) (omega arith) (omega arith)
+    told zero h false t u v shut works next known = other-told 3 (omega arith) (omega arith)
+    told zero h true false u v shut works next known = record {
+      off = λ e. works;
+      not-next = λ e. absurd (omega arith);
+      unsettled = λ e. absurd (omega arith);
+      none = λ e. absurd (omega arith);
+      not-four = λ e. absurd (omega arith);
+    }
+    told zero h true true false v shut works next known = record {
+      off = λ e. absurd (omega arith);
+      not-next = λ e. (works, out-of-turn day shut next);
+      unsettled = λ e. absurd (omega arith);
+      none = λ e. absurd (omega arith);
+      not-four = λ e. absurd (omega arith);
+    }
+    told zero h true true true false shut works next known = record {
+      off = λ e. absurd (omega arith);
+      not-next = λ e. absurd (omega arith);
+      unsettled = λ e. (works, (in-turn day shut next, unknown-settles (working b) day known));
+      none = λ e. absurd (omega arith);
+      not-four = λ e. absurd (omega arith);
+    }
+    told zero h true true true true shut works next known = record {
+      off = λ e. absurd (omega arith);
+      not-next = λ e. absurd (omega arith);
+      unsettled = λ e. absurd (omega arith);
+      none = λ e. (works, (in-turn day shut next, λ m l k. known-settles (working b) day m known l k));
+      not-four = λ e. absurd (omega arith);
+    }
+
+-- ---- by the record
+checked-most : (t : Bool) → ranges.refusalOf (cond t Passed (Refused 2)) ≤ 2
+checked-most true = omega arith
+checked-most false = omega arith
+
+ranged-most : (e : Entry) → ranged e ≤ 2
+ranged-most e = checked-most (ranges.inRange (e .kind) (e .fields) (e .exceptions))
+
+pub days-told : (b : Book) → Listed b → (e : Entry) (o : Opening) → callOf e ≡ opening o → DayTold b (o .day) (refusal b e)
+unfolding refusal
+days-told b i e o q =
+    subst (λ c. DayTold b (o .day) (firstOf (ranged e ∷ tests b c))) (sym q)
+    (told b i (o .day) (ranged e) (ranged-most e) _ _ _ _ refl refl refl refl)
+
+-- ---- no other call has a number past 18
+abbrev Few : List ℕ → Type 0
+Few [] = Unit {0}
+Few (n ∷ l) = (n ≤ 18) × Few l
+
+first-most : (l : List ℕ) → Few l → firstOf l ≤ 18
+unfolding firstOf
+first-most [] f = omega arith
+first-most (zero ∷ l) f = first-most l (f .1)
+first-most (suc n ∷ l) f = f .0
+
+few : (t : Bool) (n : ℕ) → T (ltb n 19) → needs t n ≤ 18
+few true n h = omega arith
+few false n h = go (ltb n 19) refl h
+  where
+    go : (t : Bool) → ltb n 19 ≡ t → T t → n ≤ 18
+    go true e h = omega (arith, ltb-true n 19 e)
+    go false e h = absurd h
+
+payment-few : (p : Payment) → funds.refusalOf p ≤ 18
+payment-few (Made f) = omega arith
+payment-few InDefault = omega arith
+payment-few TooMuch = omega arith
+payment-few Full = omega arith
+
+module _ (b : Book) (r : ℕ) (small : r ≤ 2) where
+  beyond : {A : Type 0} (l : List ℕ) → Few l → 18 < firstOf (r ∷ l) → A
+  beyond l f h = let most = first-most (r ∷ l) (omega arith, f) in absurd (omega arith)
+
+  only-opens : (c : Call) → 18 < firstOf (r ∷ tests b c) → (o : Opening) × (c ≡ opening o)
+  only-opens (start s) = beyond _ (search few)
+  only-opens (enrol n l) = beyond _ (search few)
+  only-opens (payIn n x) = beyond _ (search (few, payment-few))
+  only-opens (payOut n x) = beyond _ (search (few, payment-few))
+  only-opens (release n x) = beyond _ (search (few, payment-few))
+  only-opens (setSpecial n x) = beyond _ (search few)
+  only-opens (setLimits n l) = beyond _ (search few)
+  only-opens (opening o) = λ h. (o, refl)
+  only-opens (trade t) = beyond _ (search few)
+  only-opens (quote q) = beyond _ (search few)
+  only-opens settle = beyond _ (search few)
+  only-opens refresh = beyond _ (search few)
+  only-opens (close final) = beyond _ (search few)
+  only-opens unknown = beyond _ (search few)
+
+pub opens-only : (b : Book) (e : Entry) → 18 < refusal b e → (o : Opening) × (callOf e ≡ opening o)
+unfolding refusal
+opens-only b e = only-opens b (ranged e) (ranged-most e) (callOf e)
+
+-- ---- a refused call
+-- of any other call its number says all
+pub plainly : (b : Book) (c : Call) → ((o : Opening) → c ≡ opening o → ⊥) → (n : ℕ) → firstOf (tests b c) ≡ n → refusing b n ≡ refused n
+unfolding firstOf
+plainly b c other n e = rw (ne-eqb n 20 not-twenty)
+  where
+    not-twenty : n ≡ 20 → ⊥
+    not-twenty q = let o = only-opens b 0 (omega arith) c (omega (arith, e)) in other (o .0) (o .1)
+
+expecting-number : (a : Day) → refusalOf (expecting a) .number ≡ 20
+expecting-number (On d) = refl
+expecting-number NoDay = refl
+
+pub refusing-number : (b : Book) (n : ℕ) → refusalOf (refusing b n) .number ≡ n
+refusing-number b n = byTest (eqb n 20) (λ e. rw e (expecting-number (expected b) ∙ sym (eqb-true n 20 e))) (λ e. rw e)
+
+module _ (b : Book) (i : Listed b) (e : Entry) (k : ℕ) (r : refusal b e ≡ suc k) where
+  next-told : suc k ≡ 20 → (d : ℕ) × NextDay b d
+  next-told q =
+      let twenty : refusal b e ≡ 20 = r ∙ q in
+      let o = opens-only b e (omega (arith, twenty)) in
+      let d = days-told b i e (o .0) (o .1) .not-next twenty .1 in
+      (d .0, d .1 .0)
+
+  pub refused-kept : RefusedKept b (called b e) (answer b e) (suc k)
+  refused-kept =
+      let same = refused-same b e k r in
+      let says = same .1 in
+      record {
+        stays = same .0;
+        number = ap (λ a. refusalOf a .number) says ∙ refusing-number b (suc k);
+        alone = λ h. ap (λ a. refusalOf a .values) says ∙ rw (ne-eqb (suc k) 20 h);
+        expects = λ q. let n = next-told q in (n .0, (ap (λ a. refusalOf a .values) says ∙ rw (q, next-is b (n .0) (n .1)), n .1));
+      }
