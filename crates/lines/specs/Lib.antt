@@ -3,3 +3,4 @@ pub mod OrderLaws
 pub mod LineLaws
 pub mod KeyLaws
 pub mod LengthLaws
+pub mod RefusalLaws
