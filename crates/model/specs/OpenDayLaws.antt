@@ -1,12 +1,13 @@
 -- The day of an open: what the number that the open is answered tells of it, and the day that is expected.
 use mathlib.Core.Path.{_≡_, refl, sym, ap, _∙_, subst}
-use mathlib.Core.Bool.{Bool, true, false, cond}
+use mathlib.Core.Bool.{Bool, true, false, not, cond, _&&_}
 use mathlib.Core.List.{List, [], _∷_}
-use mathlib.Core.Logic.{inl, inr}
-use Prim.Native.Nat.{ℕ, zero, suc, _+_, _-_, _≤_, _<_}
+use mathlib.Core.Logic.{_⊎_, inl, inr}
+use Prim.Native.Nat.{ℕ, zero, suc, _+_, _-_, _<_}
 use native.Mathlib.Omega.{arith}
-use borrow.Author.Tests.{ltb-true, eqb-true, eqb-false, ne-eqb}
+use borrow.Author.Tests.{le-ltb, eqb-true, eqb-false, ne-eqb}
 use lib.Dec.{T, eqb, ltb}
+use Rattle.lists.specs.Has.{has}
 use Rattle.lists.specs.HasLaws.{byTest, clash, or-skip}
 use Rattle.days.specs.declared.Day.{Day}
 use Rattle.days.specs.declared.Day.the-variants.{On, NoDay}
@@ -28,6 +29,10 @@ use Rattle.model.specs.Answers.{called, refused, expecting, refusing, an
 use Rattle.model.specs.Promises.{NextDay, RefusedKept, InTurn, DayTold}
 use Rattle.model.specs.Kept.{isDated, Listed}
 use Rattle.model.specs.RefusalLaws.{refused-same}
+
+-- the first test, by whether a record is in range
+abbrev rangeTest : Bool → ℕ
+rangeTest t = ranges.refusalOf (cond t Passed (Refused 2))
 
 -- ---- the day expected
 -- it is the only next working day
@@ -59,19 +64,15 @@ module _ (b : Book) (i : Listed b) where
       go (On d) q =
           let f = first-of (working b) (days - (b .today .day + 1)) (b .today .day + 1) d q in
           let late = f .from in
-          let most = f .below in (
-            d,
-            (
-              q,
-              record {
-                closed = e;
-                later = omega arith;
-                inside = omega arith;
-                works = f .works;
-                first = λ k h l. f .skips k (omega arith) l;
-              },
-            ),
-          )
+          let most = f .below in
+          let n : NextDay b d = record {
+            closed = e;
+            later = omega arith;
+            inside = omega arith;
+            works = f .works;
+            first = λ k h l. f .skips k (omega arith) l;
+          } in
+          (d, (q, n))
       go NoDay q =
           let l = settles-later (working b) (b .today .day) (i .known (ap isDated e)) in
           let after = l .1 .0 in
@@ -95,121 +96,133 @@ module _ (b : Book) (i : Listed b) where
 
   module _ (day : ℕ) where
     -- 2 and 3 tell nothing of the day
-    other-told : (n : ℕ) → 0 < n → n < 4 → DayTold b day n
-    other-told n h l = record {
+    other-told : (n : ℕ) → 0 < n → n < 4 → has n (0 ∷ 2 ∷ 3 ∷ 19 ∷ 20 ∷ 21 ∷ []) ≡ true → DayTold b day n
+    other-told n h l i = record {
       off = λ e. absurd (omega arith);
       not-next = λ e. absurd (omega arith);
       unsettled = λ e. absurd (omega arith);
       none = λ e. absurd (omega arith);
-      not-four = λ e. absurd (omega arith);
+      only = i;
     }
 
-    told : (r : ℕ) → r ≤ 2 → (s t u v : Bool) → isShut (b .today .point) ≡ s → working b day ≡ t → isNext b day ≡ u
-        → listing (working b) day .known ≡ v
-        → DayTold b day (firstOf (r ∷ needs s 3 ∷ needs t 19 ∷ needs u 20 ∷ needs v 21 ∷ []))
-    unfolding firstOf
-    told (suc r) h s t u v shut works next known = other-told (suc r) (omega arith) (omega arith)
-    told zero h false t u v shut works next known = other-told 3 (omega arith) (omega arith)
-    told zero h true false u v shut works next known = record {
+    told : (r s t u v : Bool) → isShut (b .today .point) ≡ s → working b day ≡ t → isNext b day ≡ u → listing (working b) day .known ≡ v
+        → DayTold b day (firstOf (rangeTest r ∷ needs s 3 ∷ needs t 19 ∷ needs u 20 ∷ needs v 21 ∷ []))
+    unfolding firstOf has
+    told false s t u v shut works next known = other-told 2 (omega arith) (omega arith) refl
+    told true false t u v shut works next known = other-told 3 (omega arith) (omega arith) refl
+    told true true false u v shut works next known = record {
       off = λ e. works;
       not-next = λ e. absurd (omega arith);
       unsettled = λ e. absurd (omega arith);
       none = λ e. absurd (omega arith);
-      not-four = λ e. absurd (omega arith);
+      only = refl;
     }
-    told zero h true true false v shut works next known = record {
+    told true true true false v shut works next known = record {
       off = λ e. absurd (omega arith);
       not-next = λ e. (works, out-of-turn day shut next);
       unsettled = λ e. absurd (omega arith);
       none = λ e. absurd (omega arith);
-      not-four = λ e. absurd (omega arith);
+      only = refl;
     }
-    told zero h true true true false shut works next known = record {
+    told true true true true false shut works next known = record {
       off = λ e. absurd (omega arith);
       not-next = λ e. absurd (omega arith);
       unsettled = λ e. (works, (in-turn day shut next, unknown-settles (working b) day known));
       none = λ e. absurd (omega arith);
-      not-four = λ e. absurd (omega arith);
+      only = refl;
     }
-    told zero h true true true true shut works next known = record {
+    told true true true true true shut works next known = record {
       off = λ e. absurd (omega arith);
       not-next = λ e. absurd (omega arith);
       unsettled = λ e. absurd (omega arith);
       none = λ e. (works, (in-turn day shut next, λ m l k. known-settles (working b) day m known l k));
-      not-four = λ e. absurd (omega arith);
+      only = refl;
     }
 
 -- ---- by the record
-checked-most : (t : Bool) → ranges.refusalOf (cond t Passed (Refused 2)) ≤ 2
-checked-most true = omega arith
-checked-most false = omega arith
-
-ranged-most : (e : Entry) → ranged e ≤ 2
-ranged-most e = checked-most (ranges.inRange (e .kind) (e .fields) (e .exceptions))
-
 pub days-told : (b : Book) → Listed b → (e : Entry) (o : Opening) → callOf e ≡ opening o → DayTold b (o .day) (refusal b e)
 unfolding refusal
 days-told b i e o q =
     subst (λ c. DayTold b (o .day) (firstOf (ranged e ∷ tests b c))) (sym q)
-    (told b i (o .day) (ranged e) (ranged-most e) _ _ _ _ refl refl refl refl)
+    (told b i (o .day) (ranges.inRange (e .kind) (e .fields) (e .exceptions)) _ _ _ _ refl refl refl refl)
 
--- ---- no other call has a number past 18
-abbrev Few : List ℕ → Type 0
-Few [] = Unit {0}
-Few (n ∷ l) = (n ≤ 18) × Few l
+-- ---- the numbers of all other calls: none past 18, and not 4
+abbrev elsewhere : ℕ → Bool
+elsewhere n = ltb n 19 && not (eqb n 4)
 
-first-most : (l : List ℕ) → Few l → firstOf l ≤ 18
+abbrev Elsewhere : List ℕ → Type 0
+Elsewhere [] = Unit {0}
+Elsewhere (n ∷ l) = T (elsewhere n) × Elsewhere l
+
+first-elsewhere : (l : List ℕ) → Elsewhere l → T (elsewhere (firstOf l))
 unfolding firstOf
-first-most [] f = omega arith
-first-most (zero ∷ l) f = first-most l (f .1)
-first-most (suc n ∷ l) f = f .0
+first-elsewhere [] f = tt
+first-elsewhere (zero ∷ l) f = first-elsewhere l (f .1)
+first-elsewhere (suc n ∷ l) f = f .0
 
-few : (t : Bool) (n : ℕ) → T (ltb n 19) → needs t n ≤ 18
-few true n h = omega arith
-few false n h = go (ltb n 19) refl h
-  where
-    go : (t : Bool) → ltb n 19 ≡ t → T t → n ≤ 18
-    go true e h = omega (arith, ltb-true n 19 e)
-    go false e h = absurd h
+test-elsewhere : (t : Bool) (n : ℕ) → T (elsewhere n) → T (elsewhere (needs t n))
+test-elsewhere true n h = tt
+test-elsewhere false n h = h
 
-payment-few : (p : Payment) → funds.refusalOf p ≤ 18
-payment-few (Made f) = omega arith
-payment-few InDefault = omega arith
-payment-few TooMuch = omega arith
-payment-few Full = omega arith
+payment-elsewhere : (p : Payment) → T (elsewhere (funds.refusalOf p))
+payment-elsewhere (Made f) = tt
+payment-elsewhere InDefault = tt
+payment-elsewhere TooMuch = tt
+payment-elsewhere Full = tt
 
-module _ (b : Book) (r : ℕ) (small : r ≤ 2) where
-  beyond : {A : Type 0} (l : List ℕ) → Few l → 18 < firstOf (r ∷ l) → A
-  beyond l f h = let most = first-most (r ∷ l) (omega arith, f) in absurd (omega arith)
+range-elsewhere : (t : Bool) → T (elsewhere (rangeTest t))
+range-elsewhere true = tt
+range-elsewhere false = tt
 
-  only-opens : (c : Call) → 18 < firstOf (r ∷ tests b c) → (o : Opening) × (c ≡ opening o)
-  only-opens (start s) = beyond _ (search few)
-  only-opens (enrol n l) = beyond _ (search few)
-  only-opens (payIn n x) = beyond _ (search (few, payment-few))
-  only-opens (payOut n x) = beyond _ (search (few, payment-few))
-  only-opens (release n x) = beyond _ (search (few, payment-few))
-  only-opens (setSpecial n x) = beyond _ (search few)
-  only-opens (setLimits n l) = beyond _ (search few)
-  only-opens (opening o) = λ h. (o, refl)
-  only-opens (trade t) = beyond _ (search few)
-  only-opens (quote q) = beyond _ (search few)
-  only-opens settle = beyond _ (search few)
-  only-opens refresh = beyond _ (search few)
-  only-opens (close final) = beyond _ (search few)
-  only-opens unknown = beyond _ (search few)
+-- a call is an open, or its tests have such numbers
+tests-elsewhere : (b : Book) (c : Call) → ((o : Opening) × (c ≡ opening o)) ⊎ Elsewhere (tests b c)
+tests-elsewhere b (start s) = inr (search test-elsewhere)
+tests-elsewhere b (enrol n l) = inr (search test-elsewhere)
+tests-elsewhere b (payIn n x) = inr (search (test-elsewhere, payment-elsewhere))
+tests-elsewhere b (payOut n x) = inr (search (test-elsewhere, payment-elsewhere))
+tests-elsewhere b (release n x) = inr (search (test-elsewhere, payment-elsewhere))
+tests-elsewhere b (setSpecial n x) = inr (search test-elsewhere)
+tests-elsewhere b (setLimits n l) = inr (search test-elsewhere)
+tests-elsewhere b (opening o) = inl (o, refl)
+tests-elsewhere b (trade t) = inr (search test-elsewhere)
+tests-elsewhere b (quote q) = inr (search test-elsewhere)
+tests-elsewhere b settle = inr (search test-elsewhere)
+tests-elsewhere b refresh = inr (search test-elsewhere)
+tests-elsewhere b (close final) = inr (search test-elsewhere)
+tests-elsewhere b unknown = inr (search test-elsewhere)
 
-pub opens-only : (b : Book) (e : Entry) → 18 < refusal b e → (o : Opening) × (callOf e ≡ opening o)
-unfolding refusal
-opens-only b e = only-opens b (ranged e) (ranged-most e) (callOf e)
+past-not : {A : Type 0} (n : ℕ) → 18 < n → T (elsewhere n) → A
+past-not n h t = absurd (subst (λ x. T (x && not (eqb n 4))) (le-ltb n 19 (omega arith)) t)
+
+module _ (b : Book) (e : Entry) where
+  refusal-elsewhere : Elsewhere (tests b (callOf e)) → T (elsewhere (refusal b e))
+  unfolding refusal
+  refusal-elsewhere f =
+      first-elsewhere (ranged e ∷ tests b (callOf e)) (range-elsewhere (ranges.inRange (e .kind) (e .fields) (e .exceptions)), f)
+
+  pub opens-only : 18 < refusal b e → (o : Opening) × (callOf e ≡ opening o)
+  opens-only h = go (tests-elsewhere b (callOf e))
+    where
+      go : ((o : Opening) × (callOf e ≡ opening o)) ⊎ Elsewhere (tests b (callOf e)) → (o : Opening) × (callOf e ≡ opening o)
+      go (inl o) = o
+      go (inr f) = past-not (refusal b e) h (refusal-elsewhere f)
+
+  pub never-four : Listed b → refusal b e ≡ 4 → ⊥
+  unfolding has
+  never-four i q = go (tests-elsewhere b (callOf e))
+    where
+      go : ((o : Opening) × (callOf e ≡ opening o)) ⊎ Elsewhere (tests b (callOf e)) → ⊥
+      go (inl o) = clash (subst (λ n. has n (0 ∷ 2 ∷ 3 ∷ 19 ∷ 20 ∷ 21 ∷ []) ≡ true) q (days-told b i e (o .0) (o .1) .only)) refl
+      go (inr f) = subst (λ n. T (elsewhere n)) q (refusal-elsewhere f)
 
 -- ---- a refused call
 -- of any other call its number says all
 pub plainly : (b : Book) (c : Call) → ((o : Opening) → c ≡ opening o → ⊥) → (n : ℕ) → firstOf (tests b c) ≡ n → refusing b n ≡ refused n
-unfolding firstOf
-plainly b c other n e = rw (ne-eqb n 20 not-twenty)
+plainly b c other n e = rw (ne-eqb n 20 (not-twenty (tests-elsewhere b c)))
   where
-    not-twenty : n ≡ 20 → ⊥
-    not-twenty q = let o = only-opens b 0 (omega arith) c (omega (arith, e)) in other (o .0) (o .1)
+    not-twenty : ((o : Opening) × (c ≡ opening o)) ⊎ Elsewhere (tests b c) → n ≡ 20 → ⊥
+    not-twenty (inl o) q = other (o .0) (o .1)
+    not-twenty (inr f) q = subst (λ k. T (elsewhere k)) (e ∙ q) (first-elsewhere (tests b c) f)
 
 expecting-number : (a : Day) → refusalOf (expecting a) .number ≡ 20
 expecting-number (On d) = refl

@@ -6,7 +6,7 @@ use Rattle.model.specs.Promises.{Promises}
 use Rattle.model.specs.RefusalLaws.{without-refused}
 use Rattle.model.specs.TradeLaws.{trades-kept}
 use Rattle.model.specs.ListedLaws.{passed-unlisted, ended-passed, opens}
-use Rattle.model.specs.OpenDayLaws.{days-told, opens-only, refused-kept}
+use Rattle.model.specs.OpenDayLaws.{days-told, opens-only, never-four, refused-kept}
 use Rattle.model.specs.VariationLaws.{trade-by-trade, net-is}
 use Rattle.model.specs.ZeroLaws.{lots-cancel, variation-cancels}
 use Rattle.model.specs.MoneyLaws.{money-stays, house-owes, house-unpaid, all-contracts}
@@ -32,6 +32,7 @@ promises h = record {
   fits = sums-fit;
   days-told = days-told (run h) (known h .listed);
   opens-only = opens-only (run h);
+  never-four = λ e. never-four (run h) e (known h .listed);
   opens = opens (run h) (known h .listed) (known h .framed);
   ended-for-good = λ c e. passed-unlisted (run h) (known h .listed) c (ended-passed c h e);
 }

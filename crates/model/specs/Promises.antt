@@ -8,7 +8,7 @@ use Prim.Native.Nat.{ℕ, suc, _≤_, _<_}
 use lib.IntN.{ℤ, pos, _+ℤ_, _-ℤ_, _*ℤ_}
 use lib.ListN.{getD}
 use lib.Signed.{_≤ℤ_}
-use Rattle.lists.specs.Has.{placeOf}
+use Rattle.lists.specs.Has.{has, placeOf}
 use Rattle.lists.specs.Tabulate.{tab}
 use Rattle.lists.specs.All.{All}
 use Rattle.whole.specs.Sums.{sumZ}
@@ -72,13 +72,13 @@ abbrev pub InTurn : Book → ℕ → Type 0
 InTurn b day = (b .today .point ≡ unopened) ⊎ NextDay b day
 
 -- Request L2: "tested in that order: a day off, not the next working day, a listed month without a settlement day in the calendar". 0 is none of
--- these, and "4 is no longer given"
+-- these; 2 and 3 come before them and tell nothing of the day
 pub record DayTold (b : Book) (day n : ℕ) : Type 0 where
   pub off : n ≡ 19 → working b day ≡ false
   pub not-next : n ≡ 20 → (working b day ≡ true) × ((d : ℕ) × (NextDay b d × (day ≡ d → ⊥)))
   pub unsettled : n ≡ 21 → (working b day ≡ true) × (InTurn b day × ((m : ℕ) × ((listedOn (working b) day m ≡ true) × (settlementDay (working b) m ≡ NoDay))))
   pub none : n ≡ 0 → (working b day ≡ true) × (InTurn b day × ((m : ℕ) → m < months → listedOn (working b) day m ≡ true → settles (working b) m ≡ true))
-  pub not-four : n ≡ 4 → ⊥
+  pub only : has n (0 ∷ 2 ∷ 3 ∷ 19 ∷ 20 ∷ 21 ∷ []) ≡ true
 
 -- ---- an accepted trade
 -- Demand 3: "no accepted trade lifts a total above both its limit and the total before".
@@ -159,9 +159,10 @@ pub record Promises (h : List Entry) : Type 0 where
   -- 7. "These ceilings let every sum fit signed 64 bits over the calendar's life"
   pub bounds : Bounded (run h)
   pub fits : SumsFit
-  -- 19 to 21 are given to opens only, and tell which day is wrong
+  -- 19 to 21 tell which day is wrong, and are given to opens only; "4 is no longer given"
   pub days-told : (e : Entry) (o : Opening) → callOf e ≡ opening o → DayTold (run h) (o .day) (refusal (run h) e)
   pub opens-only : (e : Entry) → 18 < refusal (run h) e → (o : Opening) × (callOf e ≡ opening o)
+  pub never-four : (e : Entry) → refusal (run h) e ≡ 4 → ⊥
   -- "Opening removes and lists accordingly"; a code that has ended is never listed again
   pub opens : (e : Entry) (o : Opening) → refusal (run h) e ≡ 0 → callOf e ≡ opening o → OpenKept (run h) (called (run h) e) o
   pub ended-for-good : (c : ℕ) → hasEnded c (log h) ≡ true → isListed (run h) c ≡ false
