@@ -1,9 +1,9 @@
 -- The day of an open: what the number that the open is answered tells of it, and the day that is expected.
 use mathlib.Core.Path.{_≡_, refl, sym, ap, _∙_, subst}
-use mathlib.Core.Bool.{Bool, true, false, not, cond, _&&_}
+use mathlib.Core.Bool.{Bool, true, false, not, cond, _&&_, _||_}
 use mathlib.Core.List.{List, [], _∷_}
 use mathlib.Core.Logic.{_⊎_, inl, inr}
-use Prim.Native.Nat.{ℕ, zero, suc, _+_, _-_, _<_}
+use Prim.Native.Nat.{ℕ, zero, suc, _+_, _-_, _≤_, _<_}
 use native.Mathlib.Omega.{arith}
 use borrow.Author.Tests.{le-ltb, eqb-true, eqb-false, ne-eqb}
 use lib.Dec.{T, eqb, ltb}
@@ -146,9 +146,9 @@ days-told b i e o q =
     subst (λ c. DayTold b (o .day) (firstOf (ranged e ∷ tests b c))) (sym q)
     (told b i (o .day) (ranges.inRange (e .kind) (e .fields) (e .exceptions)) _ _ _ _ refl refl refl refl)
 
--- ---- the numbers of all other calls: none past 18, and not 4
+-- ---- the numbers of all other calls: not 19 to 21, and not 4
 abbrev elsewhere : ℕ → Bool
-elsewhere n = ltb n 19 && not (eqb n 4)
+elsewhere n = (ltb n 19 || ltb 21 n) && not (eqb n 4)
 
 abbrev Elsewhere : List ℕ → Type 0
 Elsewhere [] = Unit {0}
@@ -191,21 +191,18 @@ tests-elsewhere b refresh = inr (search test-elsewhere)
 tests-elsewhere b (close final) = inr (search test-elsewhere)
 tests-elsewhere b unknown = inr (search test-elsewhere)
 
-past-not : {A : Type 0} (n : ℕ) → 18 < n → T (elsewhere n) → A
-past-not n h t = absurd (subst (λ x. T (x && not (eqb n 4))) (le-ltb n 19 (omega arith)) t)
-
 module _ (b : Book) (e : Entry) where
   refusal-elsewhere : Elsewhere (tests b (callOf e)) → T (elsewhere (refusal b e))
   unfolding refusal
   refusal-elsewhere f =
       first-elsewhere (ranged e ∷ tests b (callOf e)) (range-elsewhere (ranges.inRange (e .kind) (e .fields) (e .exceptions)), f)
 
-  pub opens-only : 18 < refusal b e → (o : Opening) × (callOf e ≡ opening o)
-  opens-only h = go (tests-elsewhere b (callOf e))
+  pub opens-only : 19 ≤ refusal b e → refusal b e ≤ 21 → (o : Opening) × (callOf e ≡ opening o)
+  opens-only h l = go (tests-elsewhere b (callOf e))
     where
       go : ((o : Opening) × (callOf e ≡ opening o)) ⊎ Elsewhere (tests b (callOf e)) → (o : Opening) × (callOf e ≡ opening o)
       go (inl o) = o
-      go (inr f) = past-not (refusal b e) h (refusal-elsewhere f)
+      go (inr f) = absurd (rw (le-ltb (refusal b e) 19 h, le-ltb 21 (refusal b e) l) at (refusal-elsewhere f))
 
   pub never-four : Listed b → refusal b e ≡ 4 → ⊥
   unfolding has
@@ -235,7 +232,7 @@ module _ (b : Book) (i : Listed b) (e : Entry) (k : ℕ) (r : refusal b e ≡ su
   next-told : suc k ≡ 20 → (d : ℕ) × NextDay b d
   next-told q =
       let twenty : refusal b e ≡ 20 = r ∙ q in
-      let o = opens-only b e (omega (arith, twenty)) in
+      let o = opens-only b e (omega (arith, twenty)) (omega (arith, twenty)) in
       let d = days-told b i e (o .0) (o .1) .not-next twenty .1 in
       (d .0, d .1 .0)
 

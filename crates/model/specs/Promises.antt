@@ -161,7 +161,7 @@ pub record Promises (h : List Entry) : Type 0 where
   pub fits : SumsFit
   -- 19 to 21 tell which day is wrong, and are given to opens only; "4 is no longer given"
   pub days-told : (e : Entry) (o : Opening) → callOf e ≡ opening o → DayTold (run h) (o .day) (refusal (run h) e)
-  pub opens-only : (e : Entry) → 18 < refusal (run h) e → (o : Opening) × (callOf e ≡ opening o)
+  pub opens-only : (e : Entry) → 19 ≤ refusal (run h) e → refusal (run h) e ≤ 21 → (o : Opening) × (callOf e ≡ opening o)
   pub never-four : (e : Entry) → refusal (run h) e ≡ 4 → ⊥
   -- "Opening removes and lists accordingly"; a code that has ended is never listed again
   pub opens : (e : Entry) (o : Opening) → refusal (run h) e ≡ 0 → callOf e ≡ opening o → OpenKept (run h) (called (run h) e) o
