@@ -13,7 +13,7 @@ use Rattle.lists.specs.HasLaws.{byTest, clash, when-true, when-false, cond-same
 use Rattle.lists.specs.Those.{those, those-fewer}
 use Rattle.days.specs.declared.Day.{Day}
 use Rattle.days.specs.declared.Day.the-variants.{On, NoDay}
-use Rattle.days.specs.Days.{nextWorking, isOn}
+use Rattle.days.specs.Days.{isOn}
 use Rattle.days.specs.DayLaws.{first-of}
 use Rattle.months.specs.Months.{lastTradingOf}
 use Rattle.calendar.specs.Listing.{listing}
@@ -22,7 +22,7 @@ use Rattle.positions.specs.Deals.{flat}
 use Rattle.model.specs.Book.{Book, Point, unstarted, unopened, unsettled, settledToday, ended, noTerms, new, isListed, working}
 use Rattle.model.specs.Calls.{Call, start, enrol, payIn, payOut, release, setSpecial, setLimits, opening, trade, quote, settle, refresh, close, unknown, Opening, callOf}
 use Rattle.model.specs.Effects.{isEnding, codesOn, after}
-use Rattle.model.specs.Refusals.{isStarted, isShut, isOpen, isSettled, isNext, tests, refusal}
+use Rattle.model.specs.Refusals.{isStarted, isShut, isOpen, isSettled, expected, isNext, tests, refusal}
 use Rattle.model.specs.Answers.{called}
 use Rattle.model.specs.History.{Step, step, run, log, hasEnded}
 use Rattle.model.specs.Bounds.{closedDays}
@@ -198,7 +198,7 @@ pub listed-runs : (b : Book) → Listed b → (c : ℕ) → isListed b c ≡ tru
 listed-runs b i c e = byTest (hasPassed b c) (λ d. clash e (passed-unlisted b i c d)) (λ d. d)
 
 -- ---- an open
-on-is : (u : ℕ) (a : Day) → isOn u a ≡ true → a ≡ On u
+pub on-is : (u : ℕ) (a : Day) → isOn u a ≡ true → a ≡ On u
 on-is u (On d) e = ap On (sym (eqb-true u d e))
 on-is u NoDay e = clash e refl
 
@@ -207,10 +207,10 @@ module _ (b : Book) (o : Opening) (p : Passed (tests b (opening o))) where
   shut = needed 3 tt (p .0)
 
   -- "later ones: the next working day after the one closed"
-  next-day : b .today .point ≡ ended → nextWorking (working b) (b .today .day + 1) ≡ On (o .day)
+  next-day : b .today .point ≡ ended → expected b ≡ On (o .day)
   next-day e =
       let n : isNext b (o .day) ≡ true = needed 20 tt (p .1 .1 .0) in
-      on-is (o .day) (nextWorking (working b) (b .today .day + 1)) (rw e at n)
+      on-is (o .day) (expected b) (rw e at n)
 
   pub open-later : closedDays (b .today .point) (b .today .day) ≤ o .day
   open-later = go (b .today .point) refl shut

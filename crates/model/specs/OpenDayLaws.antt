@@ -1,5 +1,5 @@
 -- The day of an open: what the number that the open is answered tells of it, and the day that is expected.
-use mathlib.Core.Path.{_≡_, refl, sym, ap, _∙_, subst}
+use mathlib.Core.Path.{_≡_, refl, sym, ap, ap₂, _∙_, subst}
 use mathlib.Core.Bool.{Bool, true, false, not, cond, _&&_, _||_}
 use mathlib.Core.List.{List, [], _∷_}
 use mathlib.Core.Logic.{_⊎_, inl, inr}
@@ -29,6 +29,7 @@ use Rattle.model.specs.Answers.{called, refused, expecting, refusing, an
 use Rattle.model.specs.Promises.{NextDay, RefusedKept, InTurn, DayTold}
 use Rattle.model.specs.Kept.{isDated, Listed}
 use Rattle.model.specs.RefusalLaws.{refused-same}
+use Rattle.model.specs.ListedLaws.{on-is}
 
 -- the first test, by whether a record is in range
 abbrev rangeTest : Bool → ℕ
@@ -55,89 +56,90 @@ later-ended unsettled s e = clash s refl
 later-ended settledToday s e = clash s refl
 later-ended ended s e = refl
 
-module _ (b : Book) (i : Listed b) where
-  -- a closed day has one: its listed months settle after it
-  next-day : b .today .point ≡ ended → (d : ℕ) × ((expected b ≡ On d) × NextDay b d)
-  next-day e = go (expected b) refl
+module _ (b : Book) (closed : b .today .point ≡ ended) where
+  found-next : (d : ℕ) → expected b ≡ On d → NextDay b d
+  found-next d q =
+      let f = first-of (working b) (days - (b .today .day + 1)) (b .today .day + 1) d q in
+      let late = f .from in
+      let most = f .below in
+      record {
+        closed = closed;
+        later = omega arith;
+        inside = omega arith;
+        works = f .works;
+        first = λ k h l. f .skips k (omega arith) l;
+      }
+
+  -- there is one: the months listed on the day closed settle after it
+  next-found : Listed b → (d : ℕ) × (expected b ≡ On d)
+  next-found i = go (expected b) refl
     where
-      go : (a : Day) → expected b ≡ a → (d : ℕ) × ((expected b ≡ On d) × NextDay b d)
-      go (On d) q =
-          let f = first-of (working b) (days - (b .today .day + 1)) (b .today .day + 1) d q in
-          let late = f .from in
-          let most = f .below in
-          let n : NextDay b d = record {
-            closed = e;
-            later = omega arith;
-            inside = omega arith;
-            works = f .works;
-            first = λ k h l. f .skips k (omega arith) l;
-          } in
-          (d, (q, n))
+      go : (a : Day) → expected b ≡ a → (d : ℕ) × (expected b ≡ On d)
+      go (On d) q = (d, q)
       go NoDay q =
-          let l = settles-later (working b) (b .today .day) (i .known (ap isDated e)) in
+          let l = settles-later (working b) (b .today .day) (i .known (ap isDated closed)) in
           let after = l .1 .0 in
           let below = l .1 .1 .0 in
           clash (l .1 .1 .1) (first-misses (working b) (days - (b .today .day + 1)) (b .today .day + 1) q (l .0) (omega arith) (omega arith))
 
-  -- ---- what the tests tell of a day
-  module _ (day : ℕ) (shut : isShut (b .today .point) ≡ true) where
-    in-turn : isNext b day ≡ true → InTurn b day
-    in-turn x = byTest (isFirst (b .today .point))
-        (λ f. inl (first-unopened (b .today .point) f))
-        (λ f. let n = next-day (later-ended (b .today .point) shut f) in
-        let on = or-skip (isFirst (b .today .point)) (isOn day (expected b)) f x in
-        inr (subst (NextDay b) (sym (eqb-true day (n .0) (ap (isOn day) (sym (n .1 .0)) ∙ on))) (n .1 .1)))
+-- ---- what the tests tell of a day
+module _ (b : Book) (day : ℕ) (shut : isShut (b .today .point) ≡ true) where
+  in-turn : isNext b day ≡ true → InTurn b day
+  in-turn x = byTest (isFirst (b .today .point))
+      (λ f. inl (first-unopened (b .today .point) f))
+      (λ f. inr (found-next b (later-ended (b .today .point) shut f) day (on-is day (expected b) (or-skip (isFirst (b .today .point)) (isOn day (expected b)) f x))))
 
-    out-of-turn : isNext b day ≡ false → (d : ℕ) × (NextDay b d × (day ≡ d → ⊥))
-    out-of-turn x = byTest (isFirst (b .today .point))
-        (λ f. clash (rw f) x)
-        (λ f. let n = next-day (later-ended (b .today .point) shut f) in
-        (n .0, (n .1 .1, eqb-false day (n .0) (sym (rw (f, n .1 .0)) ∙ x))))
+  out-of-turn : Listed b → isNext b day ≡ false → (d : ℕ) × (NextDay b d × (day ≡ d → ⊥))
+  out-of-turn i x = byTest (isFirst (b .today .point))
+      (λ f. clash (ap (λ t. t || isOn day (expected b)) f) x)
+      (λ f. let ended = later-ended (b .today .point) shut f in
+      let n = next-found b ended i in
+      (n .0, (found-next b ended (n .0) (n .1), eqb-false day (n .0) (sym (ap₂ (λ t a. t || isOn day a) f (n .1)) ∙ x))))
 
-  module _ (day : ℕ) where
-    -- 2 and 3 tell nothing of the day
-    other-told : (n : ℕ) → 0 < n → n < 4 → has n (0 ∷ 2 ∷ 3 ∷ 19 ∷ 20 ∷ 21 ∷ []) ≡ true → DayTold b day n
-    other-told n h l i = record {
-      off = λ e. absurd (omega arith);
-      not-next = λ e. absurd (omega arith);
-      unsettled = λ e. absurd (omega arith);
-      none = λ e. absurd (omega arith);
-      only = i;
-    }
+module _ (b : Book) (i : Listed b) (day : ℕ) where
+  -- 2 and 3 tell nothing of the day
+  other-told : (n : ℕ) → 0 < n → n < 4 → has n (0 ∷ 2 ∷ 3 ∷ 19 ∷ 20 ∷ 21 ∷ []) ≡ true → DayTold b day n
+  other-told n h l i = record {
+    off = λ e. absurd (omega arith);
+    not-next = λ e. absurd (omega arith);
+    unsettled = λ e. absurd (omega arith);
+    none = λ e. absurd (omega arith);
+    only = i;
+  }
 
-    told : (r s t u v : Bool) → isShut (b .today .point) ≡ s → working b day ≡ t → isNext b day ≡ u → listing (working b) day .known ≡ v
-        → DayTold b day (firstOf (rangeTest r ∷ needs s 3 ∷ needs t 19 ∷ needs u 20 ∷ needs v 21 ∷ []))
-    unfolding firstOf has
-    told false s t u v shut works next known = other-told 2 (omega arith) (omega arith) refl
-    told true false t u v shut works next known = other-told 3 (omega arith) (omega arith) refl
-    told true true false u v shut works next known = record {
-      off = λ e. works;
-      not-next = λ e. absurd (omega arith);
-      unsettled = λ e. absurd (omega arith);
-      none = λ e. absurd (omega arith);
-      only = refl;
-    }
-    told true true true false v shut works next known = record {
-      off = λ e. absurd (omega arith);
-      not-next = λ e. (works, out-of-turn day shut next);
-      unsettled = λ e. absurd (omega arith);
-      none = λ e. absurd (omega arith);
-      only = refl;
-    }
-    told true true true true false shut works next known = record {
-      off = λ e. absurd (omega arith);
-      not-next = λ e. absurd (omega arith);
-      unsettled = λ e. (works, (in-turn day shut next, unknown-settles (working b) day known));
-      none = λ e. absurd (omega arith);
-      only = refl;
-    }
-    told true true true true true shut works next known = record {
-      off = λ e. absurd (omega arith);
-      not-next = λ e. absurd (omega arith);
-      unsettled = λ e. absurd (omega arith);
-      none = λ e. (works, (in-turn day shut next, λ m l k. known-settles (working b) day m known l k));
-      only = refl;
-    }
+  told : (r s t u v : Bool) → isShut (b .today .point) ≡ s → working b day ≡ t → isNext b day ≡ u → listing (working b) day .known ≡ v
+      → DayTold b day (firstOf (rangeTest r ∷ needs s 3 ∷ needs t 19 ∷ needs u 20 ∷ needs v 21 ∷ []))
+  unfolding firstOf has
+  told false s t u v shut works next known = other-told 2 (omega arith) (omega arith) refl
+  told true false t u v shut works next known = other-told 3 (omega arith) (omega arith) refl
+  told true true false u v shut works next known = record {
+    off = λ e. works;
+    not-next = λ e. absurd (omega arith);
+    unsettled = λ e. absurd (omega arith);
+    none = λ e. absurd (omega arith);
+    only = refl;
+  }
+  told true true true false v shut works next known = record {
+    off = λ e. absurd (omega arith);
+    not-next = λ e. (works, out-of-turn b day shut i next);
+    unsettled = λ e. absurd (omega arith);
+    none = λ e. absurd (omega arith);
+    only = refl;
+  }
+  told true true true true false shut works next known = record {
+    off = λ e. absurd (omega arith);
+    not-next = λ e. absurd (omega arith);
+    unsettled = λ e. (works, (in-turn b day shut next, unknown-settles (working b) day known));
+    none = λ e. absurd (omega arith);
+    only = refl;
+  }
+  told true true true true true shut works next known = record {
+    off = λ e. absurd (omega arith);
+    not-next = λ e. absurd (omega arith);
+    unsettled = λ e. absurd (omega arith);
+    none = λ e. (works, (in-turn b day shut next, λ m l k. known-settles (working b) day m known l k));
+    only = refl;
+  }
 
 -- ---- by the record
 pub days-told : (b : Book) → Listed b → (e : Entry) (o : Opening) → callOf e ≡ opening o → DayTold b (o .day) (refusal b e)

@@ -55,14 +55,15 @@ pub fn open_day(
         return Opened::Refused(3);
     }
     let n = h.exceptions as usize;
-    if !is_working(&counts[10..10 + n], day) {
+    let exceptions = &counts[10..10 + n];
+    if !is_working(exceptions, day) {
         return Opened::Refused(19);
     }
-    let expected = next_working(&counts[10..10 + n], h.day + 1);
+    let expected = next_working(exceptions, h.day + 1);
     if !is_next(h.point, expected, day) {
         return not_next(expected);
     }
-    let listing = listed_on(&counts[10..10 + n], day);
+    let listing = listed_on(exceptions, day);
     if !listing.known {
         return Opened::Refused(21);
     }

@@ -13,6 +13,7 @@ use Rattle.calendar.specs.declared.listing.Listing.{Listing}
 use Rattle.calendar.specs.Listing.{listing}
 use Rattle.memory.specs.declared.header_row.Header.{Header}
 use Rattle.standing.specs.SoundLaws.{exceptionsOf, sound-long, sound-members, sound-listed, sound-exceptions, exceptions-rise}
+use Rattle.opening.specs.Opens.{notNextAs}
 use Rattle.opening.specs.OpenLaws.{shutAt, worksAt, expectedAt, nextAt, last-day, answered-shut, answered-off, answered-not-next, answered-unknown, answered-open}
 use Rattle.opening.proofs.open_day.Statement.{statement}
 use Rattle.opening.proofs.open_day.Tie as tie
@@ -25,10 +26,7 @@ abbrev else1 : tie.After-is-working → tie.Else1
 else1 c = c .before .before .before
 
 abbrev else2 : tie.After-next-working → tie.Else2
-else2 c = c .before .before .before .before
-
-abbrev else3 : tie.After-listed-on → tie.Else3
-else3 c = c .before .before .before
+else2 c = c .before .before
 
 abbrev header1 : tie.Else1 → tie.After-load-header
 header1 c = c .before .before
@@ -73,8 +71,8 @@ next-is c =
     let h = header2 (else2 (c .before)) in
     c .is-next .ensures ∙ ap₂ (λ (x : Header) (a : Day). eqb (x .point) 1 || isOn (asked h) a) (h .load-header .ensures) (expected-is (c .before))
 
-listing-is : (c : tie.After-listed-on) → let h = header3 (else3 c) in c .listed-on .result ≡ listing (worksAt (memory h)) (asked h)
-listing-is c = let h = header3 (else3 c) in c .listed-on .ensures ∙ ap (λ e. listing (isWorking e) (asked h)) (lent h)
+listing-is : (c : tie.After-listed-on) → let h = header3 (c .before) in c .listed-on .result ≡ listing (worksAt (memory h)) (asked h)
+listing-is c = let h = header3 (c .before) in c .listed-on .ensures ∙ ap (λ e. listing (isWorking e) (asked h)) (lent h)
 
 -- ---- a test that was passed
 shut : (c : tie.Else1) → shutAt (memory (header1 c)) ≡ true
@@ -98,17 +96,17 @@ same-length c = search needs
 returns : tie.Need-returns
 returns c = answered-shut (start (c .before .before) .pre) _ (sym (shut-is (c .before)) ∙ not-true _ (c .if1 .taken))
 
-add-is-working : tie.Need-add-is-working
-add-is-working c = omega (arith, few (header1 c))
+add-exceptions : tie.Need-add-exceptions
+add-exceptions c = omega (arith, few (header1 c))
 
-sub-is-working : tie.Need-sub-is-working
-sub-is-working c = search needs
+sub-exceptions : tie.Need-sub-exceptions
+sub-exceptions c = search needs
 
-part-is-working-start : tie.Need-part-is-working-start
-part-is-working-start c = search needs
+part-exceptions-start : tie.Need-part-exceptions-start
+part-exceptions-start c = search needs
 
-part-is-working-end : tie.Need-part-is-working-end
-part-is-working-end c = let h = header1 (c .before) in omega (arith, few h, sound-long (start h .pre) .counts)
+part-exceptions-end : tie.Need-part-exceptions-end
+part-exceptions-end c = let h = header1 (c .before) in omega (arith, few h, sound-long (start h .pre) .counts)
 
 is-working-requires : tie.Need-is-working-requires
 is-working-requires c κs = rises (header1 (c .before .before))
@@ -122,24 +120,12 @@ returns-2 c =
     answered-off (start (header1 e) .pre) _ (shut e) (sym (works-is (c .before)) ∙ not-true _ (c .if2 .taken))
 
 add-next-working : tie.Need-add-next-working
-add-next-working c = omega (arith, few (header2 c))
-
-sub-next-working : tie.Need-sub-next-working
-sub-next-working c = search needs
-
-part-next-working-start : tie.Need-part-next-working-start
-part-next-working-start c = search needs
-
-part-next-working-end : tie.Need-part-next-working-end
-part-next-working-end c = let h = header2 (c .before) in omega (arith, few h, sound-long (start h .pre) .counts)
-
-add-next-working-2 : tie.Need-add-next-working-2
-add-next-working-2 c =
-    let h = header2 (c .before .before .before) in
+add-next-working c =
+    let h = header2 (c .before) in
     omega (arith, ap (λ (x : Header). x .day) (h .load-header .ensures), last-day (start h .pre))
 
 next-working-requires : tie.Need-next-working-requires
-next-working-requires c κs = rises (header2 (c .before .before .before))
+next-working-requires c κs = rises (header2 (c .before))
 
 is-next-requires : tie.Need-is-next-requires
 is-next-requires c κs = search needs
@@ -155,23 +141,11 @@ returns-3 c =
     let t = c .before in
     let n = t .before .before in
     let e = else2 n in
-    rw (c .not-next .ensures, expected-is n)
+    rw (c .not-next .ensures ∙ ap notNextAs (expected-is n))
     (answered-not-next (start (header2 e) .pre) _ (shut (else1 (e .before))) (works e) (sym (next-is (t .before)) ∙ not-true _ (t .if3 .taken)))
 
-add-listed-on : tie.Need-add-listed-on
-add-listed-on c = omega (arith, few (header3 c))
-
-sub-listed-on : tie.Need-sub-listed-on
-sub-listed-on c = search needs
-
-part-listed-on-start : tie.Need-part-listed-on-start
-part-listed-on-start c = search needs
-
-part-listed-on-end : tie.Need-part-listed-on-end
-part-listed-on-end c = let h = header3 (c .before) in omega (arith, few h, sound-long (start h .pre) .counts)
-
 listed-on-requires : tie.Need-listed-on-requires
-listed-on-requires c κs = rises (header3 (c .before .before))
+listed-on-requires c κs = rises (header3 c)
 
 same-length-4 : tie.Need-same-length-4
 same-length-4 c = search needs
@@ -179,14 +153,14 @@ same-length-4 c = search needs
 returns-4 : tie.Need-returns-4
 returns-4 c =
     let l = c .before .before in
-    let e3 = else3 l in
+    let e3 = l .before in
     let e2 = else2 (e3 .before .before) in
     answered-unknown (start (header2 e2) .pre) _ (shut (else1 (e2 .before))) (works e2) (next e3)
     (sym (ap (λ (x : Listing). x .known) (listing-is l)) ∙ not-true _ (c .if4 .taken))
 
 relist-requires : tie.Need-relist-requires
 relist-requires c κs =
-    let s = start (header3 (else3 (c .before .before .before .before .before))) .pre in
+    let s = start (header3 (c .before .before .before .before .before .before)) .pre in
     (sound-long s, (sound-listed s, sound-members s))
 
 open-header-requires : tie.Need-open-header-requires
@@ -195,7 +169,7 @@ open-header-requires c κs = search needs
 store-header-requires : tie.Need-store-header-requires
 store-header-requires c κs =
     let r = c .before .before .before .before .before in
-    let s = start (header3 (else3 (r .before .before .before .before .before .before))) .pre in
+    let s = start (header3 (r .before .before .before .before .before .before .before)) .pre in
     r .relist .kept .0 ∙ sound-long s .counts
 
 same-length-5 : tie.Need-same-length-5
@@ -211,7 +185,7 @@ returns-5 c =
     let r = made .before .before .before .before in
     let last = r .before .before .before .before in
     let l = last .before .before in
-    let e3 = else3 l in
+    let e3 = l .before in
     let e2 = else2 (e3 .before .before) in
     let h = header2 e2 in
     rw (put .store-header .ensures, made .open-header .ensures, h .load-header .ensures)
@@ -227,27 +201,19 @@ open-day-spec =
     is-shut-requires
     same-length
     returns
-    add-is-working
-    sub-is-working
-    part-is-working-start
-    part-is-working-end
+    add-exceptions
+    sub-exceptions
+    part-exceptions-start
+    part-exceptions-end
     is-working-requires
     same-length-2
     returns-2
     add-next-working
-    sub-next-working
-    part-next-working-start
-    part-next-working-end
-    add-next-working-2
     next-working-requires
     is-next-requires
     not-next-requires
     same-length-3
     returns-3
-    add-listed-on
-    sub-listed-on
-    part-listed-on-start
-    part-listed-on-end
     listed-on-requires
     same-length-4
     returns-4
