@@ -2,6 +2,8 @@
 // calendar is accepted. Days are counted from 2020-01-01, day 0 and a Wednesday, to 2029-12-31, day 3,652.
 //
 // Exceptions are lent as a slice of days that rise. A caller tests that once, by `are_rising`.
+#![tactic(auto)]
+
 ghost use Rattle.std.specs.Prelude.{◌≡◌, true, min};
 ghost use Rattle.days.specs.Days.{is_weekend, is_exception, rising, is_working, next_working, working_before, accepted};
 

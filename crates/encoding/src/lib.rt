@@ -1,4 +1,6 @@
 // Writing numbers: how many bytes they take, and the bytes put at a place of lent room.
+#![tactic(auto)]
+
 ghost use Rattle.std.specs.Prelude.{◌≡◌, ◌+◌, ◌≤◌, length};
 ghost use Rattle.numbers.specs.Seven.{encode};
 ghost use Rattle.numbers.specs.Several.{write_of};

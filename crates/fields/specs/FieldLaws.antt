@@ -1,7 +1,7 @@
 -- What follows for records: how many fields a kind has, which are signed, and what a record's shape tells.
 use Rattle.std.proofs.Math.Path.{◌≡◌, refl}
 use Rattle.std.proofs.Common.{sym, zero-le, leb→le}
-use Rattle.std.specs.Prelude.{Bool, ◌&&◌, ℕ, zero, suc, ◌≤◌, ◌<◌, T, ltb, eqb, get_or, drop, replicate}
+use Rattle.std.specs.Prelude.{Bool, ◌&&◌, ℕ, zero, suc, ◌≤◌, ◌<◌, T, ltb, eqb, drop, replicate}
 use Rattle.std.proofs.Math.Bool.{true, false, cond, and-eq-true_iff}
 use Rattle.std.specs.Bool.{beq}
 use mathlib.Core.List.{List, [], map}

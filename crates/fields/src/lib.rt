@@ -1,4 +1,6 @@
 // The kinds of records: how many fields each has, which of them are signed, and what a record of the kind looks like.
+#![tactic(auto)]
+
 ghost use Rattle.std.specs.Prelude.{◌≡◌, drop};
 ghost use Rattle.lists.specs.Passing.{all};
 ghost use Rattle.fields.specs.Fields.{count_of, signed_at, announced, is_zero, shaped};

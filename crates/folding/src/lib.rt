@@ -1,4 +1,6 @@
 // How a signed field is written: folded, so that a number near zero is short whatever its sign.
+#![tactic(auto)]
+
 ghost use Rattle.std.specs.Prelude.{◌≡◌};
 ghost use Rattle.folding.specs.Fold.{folded, unfolded};
 

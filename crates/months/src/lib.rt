@@ -1,4 +1,6 @@
 // A contract month: its code, whether it is quarterly, its settlement day and its last trading day.
+#![tactic(auto)]
+
 ghost use Rattle.std.specs.Prelude.{◌≡◌, true, ◌+◌, ◌-◌, ◌≤◌, ◌<◌};
 ghost use Rattle.days.specs.Days.{rising, is_working};
 ghost use Rattle.months.specs.Months.{month_of, code_of, is_quarterly, first_day, third_wednesday, settlement_day, last_trading_day};

@@ -1,5 +1,7 @@
 // The positions of an account, one for each contract row: none, what a trade makes of them, and how far a net may go
 // (document 01, 'Trade').
+#![tactic(auto)]
+
 ghost use Rattle.std.specs.Prelude.{◌≡◌, ◌<◌, replicate};
 ghost use Rattle.whole.specs.Within.{Within};
 ghost use Rattle.positions.specs.Deals.{overnight, flat, dealt, with_deal};

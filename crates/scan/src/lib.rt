@@ -1,4 +1,6 @@
 // Text as programs read it: where a line ends, where digits end, and the number that digits stand for.
+#![tactic(auto)]
+
 ghost use Rattle.std.specs.Prelude.{◌≡◌, ◌≤◌, max, length};
 ghost use Rattle.scan.specs.Text.{is_digit, byte_end, line_end, digits_end, number_in};
 

@@ -1,5 +1,7 @@
 // A contract's day, kept by value as a tally: trades and quotes are added one at a time, and the tally has what the rules of
 // settlement need at any time (document 01, 'Settlement rate').
+#![tactic(auto)]
+
 ghost use Rattle.std.specs.Prelude.{◌≡◌, [], ◌<◌, ◌≤◌, length};
 ghost use Rattle.whole.specs.Within.{Within};
 ghost use Rattle.tallies.specs.Day.{in_last_hour};

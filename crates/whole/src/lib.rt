@@ -1,5 +1,7 @@
 // Signed whole numbers: sizes, the larger and the smaller of two, and the two roundings of the book.
 // Each function serves the whole range of its types.
+#![tactic(auto)]
+
 ghost use Rattle.std.specs.Prelude.{◌≡◌, ◌<◌, ◌≤◌, ◌^◌, nat_abs};
 ghost use Rattle.whole.specs.Larger.{larger, smaller};
 ghost use Rattle.whole.specs.Round.{on_tie, size_rounded_by, with_sign, rounded, hundredth_up};

@@ -1,0 +1,5 @@
+use borrow.Author.Rules.{rules}
+use Rattle.accounts.proofs.new_account.Goals as goal
+
+pub returns : goal.returns
+returns c = rw (c.new_holdings-holdings.ensures, c.new_funds-funds.ensures)

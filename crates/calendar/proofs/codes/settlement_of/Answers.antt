@@ -1,0 +1,10 @@
+-- By the two cases of the code.
+use mathlib.Core.Path.{sym, ◌∙◌}
+use borrow.Author.Rules.{rules}
+use Rattle.calendar.proofs.codes.settlement_of.Goals as goal
+
+pub returns-in-Is : goal.returns-in-Is
+returns-in-Is c = rw (sym c.from_code.ensures ∙ c.in-Is.is) c.settlement_day.ensures
+
+pub returns-in-NoMonth : goal.returns-in-NoMonth
+returns-in-NoMonth c = rw (sym c.from_code.ensures ∙ c.in-NoMonth.is)

@@ -1,0 +1,40 @@
+-- What is chosen at the head of the loop is what the definition chooses from the months before; six end it, and fewer at the calendar's end leave one past it.
+use mathlib.Core.Path.{◌≡◌, sym, ap, ◌∙◌}
+use Prim.Native.Nat.{◌+◌, ◌-◌, ◌≤◌}
+use Rattle.days.specs.Days.{is_working}
+use Rattle.calendar.specs.Choosing.{considered, answered, chosen_before}
+use Rattle.calendar.specs.ChoosingLaws.{chosen_none, chosen-next, chosen-most, full-listing, short-listing}
+use native.Mathlib.Omega.{arith}
+use borrow.Author.Rules.{rules}
+use Rattle.calendar.proofs.listing.listed_on.Goals as goal
+use Rattle.calendar.proofs.listing.listed_on.Goals.{After-considered-chosen}
+
+pub loop-number-init : goal.loop-number-init
+loop-number-init c =
+    let none = c.none_chosen-chosen.ensures in
+    ((omega arith, omega arith), (none ∙ sym (chosen_none _ _), rw none (λ e. omega arith)))
+
+pub considered-chosen-requires : goal.considered-chosen-requires
+considered-chosen-requires c = rw c.loop-number.invariant.1.0 (chosen-most _ _ _)
+
+-- what is chosen once the month is considered
+next-is : (c : After-considered-chosen) → c.considered-chosen.result ≡ chosen_before (is_working c.args.exceptions.now) c.args.t (c.loop-number.number + 1)
+next-is c =
+    let l = c.loop-number in
+    c.considered-chosen.ensures ∙ rw (l.invariant.1.0, c.settlement_day.ensures) (chosen-next _ _ _ l.invariant.0.0)
+
+pub overflow_add-chosen : goal.overflow_add-chosen
+overflow_add-chosen c = rw (next-is c.before) (omega (arith, chosen-most (is_working c.args.exceptions.now) c.args.t (c.loop-number.number + 1)))
+
+pub returns-then-chosen-eq6 : goal.returns-then-chosen-eq6
+returns-then-chosen-eq6 c =
+    let next = next-is c.before.before.before in
+    c.answered.ensures ∙ ap answered next ∙ full-listing _ _ _ (omega arith) (rw next at c.if-chosen-eq6.true)
+
+pub loop-number-preserved : goal.loop-number-preserved
+loop-number-preserved c = ((omega arith, omega arith), (next-is c.before.before, c.if-chosen-eq6.false))
+
+pub returns : goal.returns
+returns c =
+    let last : c.loop-number.number ≡ 360 = omega arith in
+    c.no_listing.ensures ∙ sym (short-listing _ _ (rw (c.loop-number.invariant.1.0, last) at c.loop-number.invariant.1.1))

@@ -1,0 +1,81 @@
+use mathlib.Core.Path.{◌≡◌, sym, ap, ◌∙◌, subst}
+use Prim.Native.Nat.{◌-◌, ◌≤◌, ◌<◌}
+use native.Mathlib.Omega.{arith}
+use Rattle.memory.specs.declared.header_row.Header.{Header}
+use Rattle.memory.specs.Layout.{Long}
+use Rattle.memory.specs.MemoryLaws.{memory-long, header_is}
+use Rattle.standing.specs.CloseRows.{closed_row}
+use Rattle.standing.specs.WalkLaws.{walked, walk-row, walks-none, walks_more}
+use Rattle.standing.specs.Turns.{Whole, Turns}
+use Rattle.day_end.specs.TurnLaws.{closed-six}
+use Rattle.day_end.proofs.bookings.close_accounts.Goals as goal
+use Rattle.day_end.proofs.bookings.close_accounts.Goals.{After-load_header-h, At-loop-i, In-loop-i}
+use Rattle.day_end.proofs.bookings.close_accounts.Invariants.{members}
+
+long : (c : At-loop-i) → Long c.loop-i.counts c.loop-i.money
+long c =
+    let p = c.requires in
+    let w = c.loop-i.invariant.1 p.rows p.whole in
+    memory-long _ w.shaped w.holds
+
+inside : (c : In-loop-i) → c.loop-i.i < 64
+inside c =
+    omega (arith, members c.before.before, c.requires.known.members)
+
+pub load_header-h-requires : goal.load_header-h-requires
+load_header-h-requires c = let p = c.requires in (memory-long _ p.whole.shaped p.whole.holds).counts
+
+pub loop-i-init : goal.loop-i-init
+loop-i-init c = let s = c.args in (omega arith, walks-none _ _ (closed_row s.ended s.d))
+
+pub load_account-a-requires : goal.load_account-a-requires
+load_account-a-requires c = let turn = c.before.before in (long c.before, inside turn)
+
+pub closed_row-x-requires : goal.closed_row-x-requires
+closed_row-x-requires c =
+    let turn = c.before.before.before in
+    let l = c.loop-i in
+    let load = turn.before.before in
+    let p = c.requires in
+    let now = l.invariant.1 p.rows p.whole in (
+      rw (c.load_account-a.ensures
+          ∙ walk-row p.rows p.whole.shaped _ (closed-six c.args.ended c.args.d p.known.end) l.i now.holds (inside c.before))
+          (p.known.accounts l.i (omega (arith, members c.before.before.before))),
+      p.known.end,
+    )
+
+pub store_account-requires : goal.store_account-requires
+store_account-requires c = let turn = c.before.before.before.before.before.before in (long c.before.before.before.before.before, inside turn)
+
+pub overflow_add-i : goal.overflow_add-i
+overflow_add-i c = omega (arith, inside c.before.before.before.before.before.before.before.before.before.before)
+
+pub loop-i-preserved : goal.loop-i-preserved
+loop-i-preserved c =
+    let store = c.before.before.before in
+    let row = store.before.before.before in
+    let turn = row.before.before.before.before in
+    let l = c.loop-i in
+    let did = c.closed_row-x.ensures ∙ ap (closed_row c.args.ended c.args.d) c.load_account-a.ensures in
+    let six = closed-six c.args.ended c.args.d c.requires.known.end in
+    let put = c.store_account.ensures in
+    (omega arith, walks_more _ _ _ l.i six l.invariant.1 (inside c.before.before.before.before.before.before.before.before) did put.0 put.1)
+
+pub shape_of-counts : goal.shape_of-counts
+shape_of-counts c =
+    let p = c.requires in
+    (long c.before).counts ∙ sym (memory-long _ p.whole.shaped p.whole.holds).counts
+
+pub shape_of-money : goal.shape_of-money
+shape_of-money c =
+    let p = c.requires in
+    (long c.before).money ∙ sym (memory-long _ p.whole.shaped p.whole.holds).money
+
+pub returns : goal.returns
+returns c =
+    let l = c.loop-i in
+    let load = c.before.before in
+    let all : l.i ≡ r.header.members =
+    (let e : l.i ≡ c.load_header-h.result.members = omega arith in
+    e ∙ ap (λ (h : Header). h.members) (c.load_header-h.ensures ∙ header_is r w.shaped w.holds)) in
+    subst (λ i. Whole l.counts l.money (walked r (closed_row c.args.ended c.args.d) i)) all (l.invariant.1 r w)

@@ -1,0 +1,93 @@
+use mathlib.Core.Path.{◌≡◌, sym, subst}
+use borrow.Author.Rules.{rules}
+use lib.ListN.{get_or}
+use Rattle.whole.specs.Machine.{back}
+use Rattle.positions.specs.Bounds.{no_mark}
+use Rattle.memory.specs.Memory.{Rows}
+use Rattle.memory.specs.MemoryLaws.{memory-long}
+use Rattle.standing.specs.CloseRows.{priced, day_end_in, first_ended, booked, renewed}
+use Rattle.standing.specs.Turns.{Whole}
+use Rattle.day_end.specs.Closable.{Bookable}
+use Rattle.day_end.specs.ReadLaws.{ended-read}
+use Rattle.day_end.specs.TurnLaws.{bookable-still, booked-whole, renewed-whole, shut-whole}
+use Rattle.day_end.proofs.close_rows.Goals as goal
+use Rattle.day_end.proofs.close_rows.Goals.{After-close_accounts, After-day_end-d, After-renew_contracts, After-store_outcomes, Start}
+
+-- ---- the step before each step
+abbrev start : After-store_outcomes → Start
+start c = c.before.before.before.before
+
+abbrev storing : After-day_end-d → After-store_outcomes
+storing c = c.before.before.before.before.before.before
+
+abbrev ending : After-close_accounts → After-day_end-d
+ending c = c.before.before.before.before.before
+
+abbrev booking : After-renew_contracts → After-close_accounts
+booking c = c.before.before.before.before.before.before
+
+-- ---- the memory after it, whatever rows r it held at first
+abbrev HeldAt : Start → Rows → Type 0
+HeldAt s r = Whole s.args.counts.now s.args.money.now r
+
+abbrev priced_at : Start → Rows → Rows
+priced_at s r = priced s.args.final_rate r
+
+module _ (r : Rows) where
+  priced-then : (c : After-store_outcomes) → HeldAt (start c.before.before.before.before.before.before.before.before.before.before.before.before.before.before.before) r
+      → Whole c.store_outcomes.new.0 c.store_outcomes.new.1.0 (priced_at (start c.before.before.before.before.before.before.before.before.before.before.before.before.before.before.before) r)
+  priced-then c w =
+      subst (λ z. Whole c.store_outcomes.new.0 c.store_outcomes.new.1.0 (priced z r)) (back (start c.before.before.before.before.before.before.before.before.before.before.before.before.before.before.before).ranges.final-rate)
+      (c.store_outcomes.ensures r w)
+  end-then : (c : After-day_end-d) → HeldAt (start (storing c.before.before.before.before.before.before.before.before.before.before.before)) r → c.day_end-d.result ≡ day_end_in (priced_at (start (storing c.before.before.before.before.before.before.before.before.before.before.before)) r)
+  end-then c w = c.day_end-d.ensures _ (priced-then (storing c.before.before.before.before.before.before.before.before.before.before.before) w)
+  ended-then : (c : After-day_end-d) → HeldAt (start (storing c.before.before.before.before.before.before.before.before.before.before.before)) r
+      → (get_or c.day_end-d.result.marks 0 no_mark).ending ≡ first_ended (priced_at (start (storing c.before.before.before.before.before.before.before.before.before.before.before)) r)
+  ended-then c w = ended-read _ (priced-then (storing c.before.before.before.before.before.before.before.before.before.before.before) w).shaped (end-then c w)
+  booked-then : (c : After-close_accounts) → let s = start (storing (ending c.before.before.before.before.before.before)) in HeldAt s r
+      → Whole c.close_accounts.new.0 c.close_accounts.new.1.0 (booked (priced_at s r))
+  booked-then c w =
+      booked-whole _ (ended-then (ending c.before.before.before.before.before.before) w) (end-then (ending c.before.before.before.before.before.before) w)
+      (c.close_accounts.ensures _ (priced-then (storing (ending c.before.before.before.before.before.before)) w))
+  renewed-then : (c : After-renew_contracts) → let s = start (storing (ending (booking c))) in HeldAt s r
+      → Whole c.renew_contracts.new.0 c.renew_contracts.new.1.0 (renewed (booked (priced_at s r)))
+  renewed-then c w = renewed-whole _ (ended-then (ending (booking c)) w) (c.renew_contracts.ensures _ (booked-then (booking c) w))
+
+pub day_end-d-requires : goal.day_end-d-requires
+day_end-d-requires c =
+    let store = c.before.before.before.before.before in
+    let p = (start c.before.before.before).requires in
+    let w = priced-then p.rows store p.whole in
+    memory-long _ w.shaped w.holds
+
+pub close_accounts-requires : goal.close_accounts-requires
+close_accounts-requires c =
+    let end = c.before.before.before.before in
+    let s = start (storing c.before.before.before.before) in
+    let now = priced_at s s.pre.rows in
+    record {
+      rows = now;
+      whole = priced-then s.pre.rows (storing c.before.before.before.before) s.pre.whole;
+      known = subst (λ d. Bookable d now) (sym (end-then s.pre.rows end s.pre.whole))
+          (bookable-still now.outcomes s.pre.known.bookable);
+    }
+
+pub renew_contracts-requires : goal.renew_contracts-requires
+renew_contracts-requires c =
+    let book = c.before.before.before.before.before in
+    let p = (start (storing (ending c.before.before.before.before.before))).requires in
+    let w = booked-then p.rows book p.whole in
+    memory-long _ w.shaped w.holds
+
+pub shut_header-requires : goal.shut_header-requires
+shut_header-requires c =
+    let renew = c.before.before.before.before in
+    let p = (start (storing (ending (booking c.before.before.before.before)))).requires in
+    let w = renewed-then p.rows renew p.whole in
+    (memory-long _ w.shaped w.holds).counts
+
+pub returns : goal.returns
+returns c =
+    let last = c.before.before in
+    let renew = last.before.before.before.before.before in
+    shut-whole _ (ended-then r (ending (booking c.before.before.before.before.before.before.before)) w) (renewed-then r renew w) c.shut_header.ensures

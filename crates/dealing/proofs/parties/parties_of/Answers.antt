@@ -1,0 +1,155 @@
+-- Each return is one test of the model; what was found before it is handed on from place to place.
+use mathlib.Core.Path.{◌≡◌, sym, ap, ◌∙◌}
+use mathlib.Core.Bool.{true, ◌||◌}
+use mathlib.Core.List.{List}
+use native.Mathlib.Omega.{arith}
+use borrow.Author.Rules.{rules}
+use borrow.Author.Tests.{eq-eqb, ne_eqb, le-leb, lt-leb, not-true, not-false}
+use lib.Dec.{eqb, leb}
+use lib.IntN.{ℤ}
+use Rattle.memory.specs.declared.header_row.Header.{Header}
+use Rattle.memory.specs.Memory.{Holds}
+use Rattle.memory.specs.MemoryLaws.{header_is}
+use Rattle.model.specs.Book.{Book}
+use Rattle.model.specs.Calls.{Trade}
+use Rattle.model.specs.Refusals.{is_open, in_hours}
+use Rattle.model.specs.Kept.{Kept}
+use Rattle.standing.specs.Standing.{header_row, rows_of}
+use Rattle.standing.specs.StandingLaws.{rows-shaped}
+use Rattle.standing.specs.MemberLaws.{member-none}
+use Rattle.standing.specs.DealLaws.{Stands, Between}
+use Rattle.hours.specs.Searched.{code-at, code-none, number-at, has_here}
+use Rattle.dealing.specs.Dealing.{trade_of}
+use Rattle.dealing.specs.PartiesLaws.{shut, unlisted, no-buyer, no-seller, one-party, out-of-hours, too-early, full}
+use Rattle.dealing.proofs.parties.parties_of.Goals as goal
+use Rattle.dealing.proofs.parties.parties_of.Goals.{After-is_open, Else-not-in_hours, Else-not-is_open, Else-t, Else-t-h, In-At, In-At-find_account, In-At-find_account-2, Start}
+
+-- ---- from a place back to the one before it where something was found
+abbrev start : After-is_open → Start
+start c = c.before.before
+
+abbrev before-k : In-At → Else-not-is_open
+before-k c = c.before.before.before.before
+
+abbrev before-i : In-At-find_account → In-At
+before-i c = c.before.before.before.before
+
+abbrev before-j : In-At-find_account-2 → In-At-find_account
+before-j c = c.before.before.before.before
+
+abbrev start-k : In-At → Start
+start-k c = start (before-k c).before
+
+abbrev start-i : In-At-find_account → Start
+start-i c = start-k (before-i c)
+
+abbrev start-j : In-At-find_account-2 → Start
+start-j c = start-i (before-j c)
+
+abbrev deal : Start → Trade
+deal s = trade_of s.args.t
+
+-- ---- what was found, of any book that the counts are of
+abbrev Of : Book → List ℤ → Start → Type 0
+Of b m s = Holds s.args.counts.now m (rows_of b)
+
+module _ {b : Book} {m : List ℤ} (g : Kept b) where
+  header : (s : Start) → Of b m s → s.args.h ≡ header_row b
+  header s h = s.requires.header ∙ header_is (rows_of b) (rows-shaped g) h
+  open_is : (c : After-is_open) → Of b m (start c.before.before.before.before.before.before.before.before.before.before.before.before.before.before.before) → is_open b.today.point ≡ c.is_open.result
+  open_is c h = sym (c.is_open.ensures ∙ ap (λ (x : Header). eqb x.point 2 || eqb x.point 3) (header (start c.before.before.before.before.before.before.before.before.before.before.before.before.before.before.before) h))
+  live : (c : Else-not-is_open) → Of b m (start c.before.before.before.before.before.before.before.before.before.before.before.before.before.before.before) → is_open b.today.point ≡ true
+  live c h = open_is c.before h ∙ not-false _ c.if-not-is_open.false-raw
+  row-k : (c : In-At) → Of b m (start-k c.before.before.before.before.before.before.before.before.before.before) → Stands b.contracts.codes (deal (start-k c.before.before.before.before.before.before.before.before.before.before)).code c.in-At.k
+  row-k c h = code-at g h _ _ (sym c.find_contract.ensures ∙ c.in-At.is)
+  row-i : (c : In-At-find_account) → Of b m (start-i c.before.before.before.before.before.before) → Stands b.accounts.members (deal (start-i c.before.before.before.before.before.before)).buyer c.in-At-find_account.i
+  row-i c h = number-at g h _ _ (sym c.find_account.ensures ∙ c.in-At-find_account.is)
+  row-j : (c : In-At-find_account-2) → Of b m (start-j c.before.before) → Stands b.accounts.members (deal (start-j c.before.before)).seller c.in-At-find_account-2.j
+  row-j c h = number-at g h _ _ (sym c.find_account-2.ensures ∙ c.in-At-find_account-2.is)
+  between : (c : Else-t) → let p = c.before.before in Of b m (start-j c.before.before)
+      → Between b (deal (start-j c.before.before)) (before-i (before-j c.before.before)).before.k.given.0.0 (before-j c.before.before).before.i.given.0.0 c.in-At-find_account-2.j
+  between c h = let p = c.before.before in record {
+    live = live (before-k (before-i (before-j c.before.before))) h;
+    contract = row-k (before-i (before-j c.before.before)) h;
+    buyer = row-i (before-j c.before.before) h;
+    seller = row-j p h;
+    apart = ne_eqb _ _ c.if-t.false;
+  }
+
+pub returns-then-not-is_open : goal.returns-then-not-is_open
+returns-then-not-is_open c = λ b m g h. shut b (deal (start c.before)) (open_is g c.before h ∙ not-true _ c.if-not-is_open.true-raw)
+
+pub returns-in_default : goal.returns-in_default
+returns-in_default c = λ b m g h.
+    let t = deal (start c.before.before.before.before) in
+    unlisted b t (live g c.before h) (code-none g h t.code (sym c.find_contract.ensures ∙ c.in_default.is))
+
+pub returns-in_default-find_account : goal.returns-in_default-find_account
+returns-in_default-find_account c = λ b m g h.
+    let found = c.before.before in
+    let p = found.before in
+    let t = deal (start-k c.before.before.before) in
+    no-buyer b t (live g (before-k c.before.before.before) h) (has_here (row-k g p h))
+    (member-none g h t.buyer (sym c.find_account.ensures ∙ c.in_default-find_account.is))
+
+pub returns-in_default-find_account-2 : goal.returns-in_default-find_account-2
+returns-in_default-find_account-2 c = λ b m g h.
+    let found = c.before.before in
+    let p = found.before in
+    let t = deal (start-i c.before.before.before) in
+    no-seller b t (live g (before-k (before-i c.before.before.before)) h) (has_here (row-k g (before-i c.before.before.before) h)) (has_here (row-i g p h))
+    (member-none g h t.seller (sym c.find_account-2.ensures ∙ c.in_default-find_account-2.is))
+
+pub returns-then-t : goal.returns-then-t
+returns-then-t c = λ b m g h.
+    let p = c.before.before in
+    let q = before-j c.before.before in
+    one-party b (deal (start-j c.before.before)) (live g (before-k (before-i q)) h) (has_here (row-k g (before-i q) h)) (has_here (row-i g q h))
+    (has_here (row-j g p h)) (eq-eqb _ _ c.if-t.true)
+
+-- ---- the hours, the clock and the number of trades
+abbrev apart : Else-not-in_hours → Else-t
+apart c = c.before.before
+
+abbrev deal-of : Else-not-in_hours → Trade
+deal-of c = deal (start-j (apart c).before.before)
+
+abbrev in-time : Else-t-h → Else-not-in_hours
+in-time c = c.before.before.before
+
+hours : (c : Else-not-in_hours) → in_hours (deal-of c).time ≡ true
+hours c = sym c.in_hours.ensures ∙ not-false _ c.if-not-in_hours.false-raw
+
+module _ {b : Book} {m : List ℤ} (g : Kept b) where
+  clock : (c : Else-t-h) → Of b m (start-j (apart (in-time c)).before.before) → leb b.today.clock (deal-of (in-time c)).time ≡ true
+  clock c h =
+      let e = ap (λ (x : Header). x.clock) (header g (start-j (apart (in-time c)).before.before) h) in
+      le-leb b.today.clock (deal-of (in-time c)).time (omega (arith, e, c.if-t-h.false))
+
+pub returns-then-not-in_hours : goal.returns-then-not-in_hours
+returns-then-not-in_hours c = λ b m g h.
+    let p = c.before.before in
+    out-of-hours b (deal (start-j c.before.before.before.before)) (between g p h) (sym c.in_hours.ensures ∙ not-true _ c.if-not-in_hours.true-raw)
+
+pub returns-then-t-h : goal.returns-then-t-h
+returns-then-t-h c = λ b m g h.
+    let e = ap (λ (x : Header). x.clock) (header g (start-j (apart c.before.before.before).before.before) h) in
+    too-early b (deal-of c.before.before.before) (between g (apart c.before.before.before) h) (hours c.before.before.before) (lt-leb b.today.clock (deal-of c.before.before.before).time (omega (arith, e, c.if-t-h.true)))
+
+pub returns-then-h-ge10000 : goal.returns-then-h-ge10000
+returns-then-h-ge10000 c = λ b m g h.
+    let q = c.before.before in
+    let p = in-time q in
+    let e = ap (λ (x : Header). x.trades) (header g (start-j (apart p).before.before) h) in
+    full b (deal-of p) (between g (apart p) h) (hours p) (clock g q h) (omega (arith, e, c.if-h-ge10000.true))
+
+pub returns : goal.returns
+returns c = λ b m g h.
+    let q = c.before.before in
+    let p = in-time q in
+    let e = ap (λ (x : Header). x.trades) (header g (start-j (apart p).before.before) h) in record {
+      between = between g (apart p) h;
+      hours = hours p;
+      clock = clock g q h;
+      room = omega (arith, e, c.if-h-ge10000.false);
+    }

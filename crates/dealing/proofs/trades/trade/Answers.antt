@@ -1,0 +1,41 @@
+-- What is found of the trade is of the book that the memory stands for.
+use mathlib.Core.Path.{◌∙◌}
+use borrow.Author.Rules.{rules}
+use Rattle.model.specs.Book.{Book}
+use Rattle.standing.specs.Standing.{view}
+use Rattle.standing.specs.StandingLaws.{sound-kept, sound-holds}
+use Rattle.standing.specs.SoundLaws.{sound-long, sound-header, sound-members, sound-listed}
+use Rattle.dealing.specs.TradedLaws.{refused-traded}
+use Rattle.dealing.proofs.trades.trade.Goals as goal
+use Rattle.dealing.proofs.trades.trade.Goals.{Start}
+
+abbrev book : Start → Book
+book s = view s.args.counts.now s.args.money.now
+
+pub load_header-h-requires : goal.load_header-h-requires
+load_header-h-requires c = (sound-long c.requires.0).counts
+
+pub parties_of-requires : goal.parties_of-requires
+parties_of-requires c =
+    let s = c.requires.0 in
+    record { long = (sound-long s).counts; listed = sound-listed s; members = sound-members s; header = c.load_header-h.ensures }
+
+pub trade_between-requires : goal.trade_between-requires
+trade_between-requires c =
+    let row = c.before.before.before in
+    let found = row.before.before in
+    let head = found.before.before in
+    let h = c.requires.0 in
+    record {
+      sound = h;
+      header = c.load_header-h.ensures ∙ sound-header h;
+      range = c.requires.1;
+      ready = rw c.in-Found.is at (c.parties_of.ensures (book c.before.before.before.before.before.before.before.before) c.args.money.now (sound-kept h) (sound-holds h));
+    }
+
+pub returns-in-Refused : goal.returns-in-Refused
+returns-in-Refused c =
+    let found = c.before.before.before in
+    let h = c.requires.0 in
+    refused-traded h
+    (rw c.in-Refused.is at (c.parties_of.ensures (book c.before.before.before.before.before.before) c.args.money.now (sound-kept h) (sound-holds h)))

@@ -1,0 +1,171 @@
+-- Both accounts are loaded, moved and asked; where they pass, all that the trade changes is stored.
+use mathlib.Core.Path.{◌≡◌, sym, ap₂, ◌∙◌, subst}
+use borrow.Author.Rules.{rules}
+use lib.IntN.{pos, neg_ℤ, ◌-ℤ◌, +ℤ_idl}
+use mir.Syntax.{w64}
+use mir.Val.{to_z, of_z}
+use Rattle.whole.specs.Within.{lit, within-neg}
+use Rattle.whole.specs.Machine.{Reads, now, unsigned, arg, sub, kept, fits, passed}
+use Rattle.holdings.specs.Holdings.{with_trade}
+use Rattle.accounts.specs.Accounts.{with_holdings}
+use Rattle.memory.specs.Memory.{Holds}
+use Rattle.model.specs.Book.{Book, margins_of}
+use Rattle.model.specs.Calls.{Trade}
+use Rattle.model.specs.Effects.{traded}
+use Rattle.standing.specs.Standing.{account_row, view}
+use Rattle.standing.specs.StandingLaws.{sound-kept, sound-holds}
+use Rattle.standing.specs.DealLaws.{margins-sound, margins-are, buyer-lots, seller-lots}
+use Rattle.dealing.specs.Dealing.{trade_of, Traded}
+use Rattle.dealing.specs.Parties.{Answers}
+use Rattle.dealing.specs.TradedLaws.{refused-traded, accepted-traded}
+use Rattle.dealing.specs.DealsLaws.{moved, deals-long, row-k, row_below, account-in, account-sound, moved-is, answers, sides, stored, sides-writable, all-written}
+use Rattle.dealing.proofs.trades.trade_between.Goals as goal
+use Rattle.dealing.proofs.trades.trade_between.Goals.{After-judge-answer, After-load_margins-margins, After-store_account, After-store_account-2, After-with_lots-bought, After-with_lots-sold, Start}
+
+abbrev book : Start → Book
+book s = view s.args.counts.now s.args.money.now
+
+abbrev deal : Start → Trade
+deal s = trade_of s.args.t
+
+-- ---- the trade's numbers
+lots : (s : Start) → Reads 1000 (to_z w64 s.args.t.lots) (pos s.args.t.lots)
+lots s = unsigned s.requires.range.most tt
+
+less : (s : Start) → Reads 1000 (to_z w64 (of_z w64 (pos 0 -ℤ to_z w64 s.args.t.lots))) (neg_ℤ (pos s.args.t.lots))
+less s = record {
+  eq = (kept (sub (now (lit (pos 0))) (lots s)) tt).eq ∙ +ℤ_idl (neg_ℤ (pos s.args.t.lots));
+  within = within-neg (lots s).within;
+
+}
+
+rate : (s : Start) → Reads 100000 (to_z w64 (of_z w64 s.args.t.rate)) s.args.t.rate
+rate s = arg s.requires.range.rate tt
+
+-- ---- what is loaded, and the sides after the trade
+abbrev start : After-load_margins-margins → Start
+start c = c.before.before.before.before.before.before.before.before.before.before.before
+
+bought : (c : After-with_lots-bought) → let s = start c.before in
+    c.with_lots-bought.result ≡ account_row (traded (book s) (deal s)) s.args.t.buyer
+bought c =
+    let s = start c.before in
+    c.with_lots-bought.ensures
+    ∙ ap₂ (λ l r. with_holdings c.load_account-buyer.result (with_trade c.load_account-buyer.result.holdings s.args.k l r))
+    (lots s).eq (rate s).eq
+    ∙ moved-is s.pre s.pre.ready.between.buyer c.load_account-buyer.ensures (buyer-lots (sound-kept s.pre.sound) s.pre.ready.between)
+
+sold : (c : After-with_lots-sold) → let s = start c.before.before in
+    c.with_lots-sold.result ≡ account_row (traded (book s) (deal s)) s.args.t.seller
+sold c =
+    let s = start c.before.before in
+    c.with_lots-sold.ensures
+    ∙ ap₂ (λ l r. with_holdings c.load_account-seller.result (with_trade c.load_account-seller.result.holdings s.args.k l r))
+    (less s).eq (rate s).eq
+    ∙ moved-is s.pre s.pre.ready.between.seller c.load_account-seller.ensures (seller-lots (sound-kept s.pre.sound) s.pre.ready.between)
+
+margins : (c : After-load_margins-margins) → c.load_margins-margins.result ≡ margins_of (book (start c))
+margins c = let d = (start c).requires in c.load_margins-margins.ensures ∙ margins-are (sound-kept d.sound) d.ready.between.live (sound-holds d.sound)
+
+-- ---- what they answer
+abbrev judging : After-judge-answer → After-load_margins-margins
+judging c = c.before.before.before
+
+answer : (c : After-judge-answer) → let s = start (judging c) in Answers (book s) (deal s) c.judge-answer.result
+answer c =
+    let m = judging c in
+    let d = (start m).pre in
+    answers d c.judge-answer.ensures (margins m)
+    (m.before.before.before.before.before.load-account.ensures ∙ account-in d d.ready.between.buyer)
+    (bought c.before.before)
+    (m.before.before.load-account2.ensures ∙ account-in d d.ready.between.seller)
+    (sold c.before)
+
+-- ---- what is stored
+abbrev accepted : After-store_account → After-judge-answer
+accepted c = c.before.before.before.before.before
+
+abbrev first-stored : After-store_account-2 → After-store_account
+first-stored c = c.before.before.before.before.before.before
+
+abbrev start-stored : After-store_account-2 → Start
+start-stored c = start (judging (accepted (first-stored c)))
+
+both : (c : After-store_account-2) → Holds c.store_account-2.new.0 c.store_account-2.new.1.0 (sides (start-stored c).requires)
+both c =
+    let first = first-stored c in
+    let q = accepted first in
+    stored (start-stored c).requires (bought q.before.before) (sold q.before)
+    first.store-account.ensures.0 first.store-account.ensures.1 c.store_account-2.ensures.0 c.store_account-2.ensures.1
+
+pub load_account-buyer-requires : goal.load_account-buyer-requires
+load_account-buyer-requires c =
+    let d = c.requires in (deals-long d, row_below d d.ready.between.buyer)
+
+pub load_account-seller-requires : goal.load_account-seller-requires
+load_account-seller-requires c =
+    let d = c.requires in (deals-long d, row_below d d.ready.between.seller)
+
+pub load_margins-margins-requires : goal.load_margins-margins-requires
+load_margins-margins-requires c =
+    (deals-long c.requires).counts
+
+pub with_lots-bought-requires : goal.with_lots-bought-requires
+with_lots-bought-requires c =
+    let s = start c in (
+      account-sound s.pre s.pre.ready.between.buyer c.load_account-buyer.ensures,
+      (row-k s.pre, (passed (lots s), passed (rate s))),
+    )
+
+pub overflow_sub-lots : goal.overflow_sub-lots
+overflow_sub-lots c = fits (sub (now (lit (pos 0))) (lots (start c.before))) tt
+
+pub with_lots-sold-requires : goal.with_lots-sold-requires
+with_lots-sold-requires c =
+    let s = start c.before in (
+      account-sound s.pre s.pre.ready.between.seller c.load_account-seller.ensures,
+      (row-k s.pre, (passed (less s), passed (rate s))),
+    )
+
+pub judge-answer-requires : goal.judge-answer-requires
+judge-answer-requires c =
+    let s = start c.before.before in
+    let buyer = account-sound s.pre s.pre.ready.between.buyer c.load_account-buyer.ensures in
+    let seller = account-sound s.pre s.pre.ready.between.seller c.load_account-seller.ensures in (
+      moved s.args.k buyer (passed (lots s)) (passed (rate s)) c.with_lots-bought.ensures,
+      (
+        moved s.args.k seller (passed (less s)) (passed (rate s)) c.with_lots-sold.ensures,
+        (row-k s.pre, rw (margins c.before.before) (margins-sound (sound-kept s.pre.sound) s.pre.ready.between.live)),
+      ),
+    )
+
+pub returns-in_default : goal.returns-in_default
+returns-in_default c =
+    let s = start (judging c.before.before) in
+    let told = c.in_default.is in
+    subst (λ r. Traded s.args.counts.now s.args.money.now (deal s) r s.args.counts.now s.args.money.now) (sym told)
+    (refused-traded s.pre.sound (subst (Answers (book s) (deal s)) told (answer c.before.before)))
+
+pub store_account-requires : goal.store_account-requires
+store_account-requires c =
+    let d = (start (judging c.before.before.before.before)).requires in (deals-long d, row_below d d.ready.between.buyer)
+
+pub store_account-requires-2 : goal.store_account-requires-2
+store_account-requires-2 c =
+    let d = (start (judging (accepted c.before.before.before.before.before))).requires in
+    let same = c.store_account.auto in
+    (record { counts = same.0 ∙ (deals-long d).counts; money = same.1.0 ∙ (deals-long d).money }, row_below d d.ready.between.seller)
+
+pub write_trade-requires : goal.write_trade-requires
+write_trade-requires c =
+    let d = (start-stored c.before.before.before.before.before).requires in
+    sides-writable d (both c.before.before.before.before.before)
+
+pub returns : goal.returns
+returns c =
+    let w = c.before.before.before in
+    let s = start-stored c.before.before.before.before.before.before.before.before.before in
+    let told = (first-stored c.before.before.before.before.before.before.before.before.before).before.before.before.enum_told.given.1 in
+    subst (λ r. Traded s.args.counts.now s.args.money.now (deal s) r c.write_trade.new.0 c.write_trade.new.1.0) (sym told)
+    (accepted-traded s.pre.sound (subst (Answers (book s) (deal s)) told (answer (accepted (first-stored c.before.before.before.before.before.before.before.before.before))))
+    (all-written s.pre (both c.before.before.before.before.before.before.before.before.before) c.write_trade.ensures))

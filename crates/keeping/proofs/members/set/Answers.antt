@@ -1,0 +1,67 @@
+use mathlib.Core.Path.{◌≡◌, ap, ◌∙◌}
+use Prim.Native.Nat.{ℕ, ◌<◌}
+use borrow.Author.Rules.{rules}
+use lib.Dec.{ltb}
+use Rattle.accounts.specs.Accounts.{with_holdings}
+use Rattle.memory.specs.declared.header_row.Header.{Header}
+use Rattle.memory.specs.Layout.{Long, header_at}
+use Rattle.standing.specs.SoundLaws.{sound-long, sound-members}
+use Rattle.places.specs.Places.{place_in}
+use Rattle.places.specs.declared.Place.TheVariants.{Row}
+use Rattle.keeping.specs.ChangeLaws.{change-refused, changer, changed-made}
+use Rattle.keeping.proofs.members.set.Goals as goal
+use Rattle.keeping.proofs.members.set.Goals.{After-place_of, Start}
+
+abbrev start : After-place_of → Start
+start c = c.before.before.before.before.before.before
+
+-- the account's place, by the memory's own header
+found : (c : After-place_of) →
+    let a = (start c).args in
+    let counts = a.counts.now in
+    c.place_of.result ≡ place_in counts (ltb 0 (header_at counts).point) a.number
+found c =
+    let a = (start c).args in
+    c.place_of.ensures
+    ∙ ap (λ (h : Header). place_in a.counts.now (ltb 0 h.point) a.number) c.load_header-h.ensures
+
+-- the row is one of the table's
+row-there : (c : After-place_of) {i : ℕ} → c.place_of.result ≡ Row i
+    → Long (start c).args.counts.now (start c).args.money.now × (i < 64)
+row-there c q =
+    let a = (start c).args in
+    let s = (start c).requires in
+    (sound-long s, (changer s a.number a.change (found c) q).small)
+
+pub load_header-h-requires : goal.load_header-h-requires
+load_header-h-requires c = (sound-long c.requires).counts
+
+pub place_of-requires : goal.place_of-requires
+place_of-requires c =
+    let s = c.requires in
+    ((sound-long s).counts, sound-members s)
+
+pub load_account-a-requires : goal.load_account-a-requires
+load_account-a-requires c = row-there c.before.before.before c.in-Row.is
+
+pub store_account-requires : goal.store_account-requires
+store_account-requires c =
+    row-there c.before.before.before.before.before.before.before.before c.in-Row.is
+
+pub returns-in-Refused : goal.returns-in-Refused
+returns-in-Refused c =
+    let a = (start c.before.before.before).args in
+    change-refused (start c.before.before.before).requires a.number a.change (found c.before.before.before) c.in-Refused.is
+
+pub returns-in-Row : goal.returns-in-Row
+returns-in-Row c =
+    let done = c.before.before.before in
+    let change = done.before.before.before in
+    let load = change.before.before in
+    let row = load.before.before.before.before in
+    let a = (start c.before.before.before.before.before.before.before.before.before.before.before.before).args in
+    changed-made (start c.before.before.before.before.before.before.before.before.before.before.before.before).requires a.number a.change (found c.before.before.before.before.before.before.before.before.before.before.before.before) c.in-Row.is
+    c.load_account-a.ensures
+    (ap (with_holdings c.load_account-a.result) c.changed-a.ensures)
+    c.store_account.ensures.0
+    c.store_account.ensures.1

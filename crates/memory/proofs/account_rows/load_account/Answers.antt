@@ -1,0 +1,6 @@
+use borrow.Author.Rules.{rules}
+use Rattle.lists.specs.Parts.{part-width}
+use Rattle.memory.proofs.account_rows.load_account.Goals as goal
+
+pub returns : goal.returns
+returns c = rw c.account_in.ensures (simp part-width)

@@ -1,0 +1,19 @@
+use mathlib.Core.Path.{◌≡◌, refl, ◌∙◌}
+use Prim.Native.Nat.{◌*◌, ◌-◌, ◌≤◌}
+use native.Mathlib.Omega.{arith}
+use borrow.Author.Rules.{rules}
+use lib.ListN.{length, get_or}
+use Rattle.lists.specs.Parts.{part-width}
+use Rattle.lists.specs.Tabulate.{tab}
+use Rattle.lists.specs.Block.{block}
+use Rattle.lists.specs.Written.{written, written_next, written_all}
+use Rattle.positions.specs.Deals.{flat}
+use Rattle.memory.specs.Rows.{position_cells}
+use Rattle.memory.proofs.account_rows.put_positions.Given as goal
+
+-- the first k positions are written
+abbrev pub invariant-loop-k : goal.invariant-loop-k
+invariant-loop-k l = (l.k ≤ 6) × ((l.row ≡ written position_cells 3 (λ i. get_or l.positions i flat) l.initial.row l.k) × (length l.row ≡ 18))
+
+abbrev pub decreases-loop-k : goal.decreases-loop-k
+decreases-loop-k l = 6 - l.k

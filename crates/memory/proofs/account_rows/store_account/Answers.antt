@@ -1,0 +1,10 @@
+use borrow.Author.Rules.{rules}
+use Rattle.lists.specs.Parts.{part-width}
+use Rattle.memory.proofs.account_rows.store_account.Goals as goal
+
+pub returns : goal.returns
+returns c = (
+  rw c.put_account_counts.ensures (simp part-width),
+  rw c.put_account_money.ensures (simp part-width),
+
+)

@@ -1,0 +1,19 @@
+use Prim.Native.Nat.{◌-◌}
+use native.Mathlib.Omega.{arith}
+use lib.IntN.{pos}
+use lib.ListN.{length, get_or}
+use Rattle.whole.specs.Machine.{told}
+use Rattle.memory.proofs.Written.{Written, written_none, written-more, written_all}
+use Rattle.memory.proofs.cells.put_money.Goals as goal
+
+pub loop-place-init : goal.loop-place-init
+loop-place-init c = written_none _ _ _ c.requires
+
+pub loop-place-preserved : goal.loop-place-preserved
+loop-place-preserved c =
+    let l = c.loop-place in
+    rw (told (get_or c.args.cells.now l.place (pos 0)) c.amount-1.given)
+    (written-more _ _ _ c.requires _ _ l.invariant (pos 0) c.loop-place-test.true)
+
+pub returns : goal.returns
+returns c = written_all _ _ _ c.requires _ _ c.loop-place.invariant c.loop-place-test.false

@@ -1,0 +1,103 @@
+-- Each return is one case of what is answered; what was found before it is handed on from place to place.
+use mathlib.Core.Path.{◌≡◌, sym, ◌∙◌}
+use mathlib.Core.Bool.{true}
+use borrow.Author.Tests.{not-true, not-false}
+use borrow.Author.Rules.{rules}
+use Rattle.model.specs.Book.{Book}
+use Rattle.model.specs.Calls.{Trade}
+use Rattle.model.specs.Refusals.{is_open}
+use Rattle.standing.specs.Standing.{view}
+use Rattle.standing.specs.StandingLaws.{sound-kept, sound-holds}
+use Rattle.standing.specs.DealLaws.{Stands}
+use Rattle.standing.specs.MemberLaws.{member-none}
+use Rattle.standing.specs.SoundLaws.{sound-long, sound-members, sound-listed}
+use Rattle.dealing.specs.Dealing.{trade_of}
+use Rattle.hours.specs.Searched.{code-at, code-none, number-at, has_here}
+use Rattle.particulars.specs.AskedLaws.{open_is, asked-shut, asked-unlisted, asked-unknown, asked-totals}
+use Rattle.particulars.proofs.proposed.asked.Goals as goal
+use Rattle.particulars.proofs.proposed.asked.Goals.{After-is_open, Else-not-is_open, In-At-2, In-At-find_account-2, Start}
+
+-- ---- from a place back to the one before it where something was found
+abbrev start : After-is_open → Start
+start c = c.before.before.before
+
+abbrev before-k : In-At-2 → Else-not-is_open
+before-k c = c.before.before.before
+
+abbrev before-i : In-At-find_account-2 → In-At-2
+before-i c = c.before.before.before.before
+
+abbrev start-k : In-At-2 → Start
+start-k c = start (before-k c).before
+
+abbrev start-i : In-At-find_account-2 → Start
+start-i c = start-k (before-i c)
+
+abbrev book : Start → Book
+book s = view s.args.counts.now s.args.money.now
+
+abbrev deal : Start → Trade
+deal s = trade_of s.args.t
+
+-- ---- what was found
+open_at : (c : After-is_open) → is_open (book (start c)).today.point ≡ c.is_open.result
+open_at c = open_is (start c).requires.0 c.load_header-h.ensures c.is_open.ensures
+
+live : (c : Else-not-is_open) → is_open (book (start c.before)).today.point ≡ true
+live c = open_at c.before ∙ not-false _ c.if-not-is_open.false-raw
+
+contract : (c : In-At-2) → let s = start-k c in Stands (book s).contracts.codes (deal s).code c.in-At.k
+contract c =
+    let h = (start-k c).requires.0 in
+    code-at (sound-kept h) (sound-holds h) _ _ (sym c.find_contract.ensures ∙ c.in-At.is)
+
+side : (c : In-At-find_account-2) → let s = start-i c in Stands (book s).accounts.members s.args.number c.in-At-find_account.i
+side c =
+    let h = (start-i c).requires.0 in
+    number-at (sound-kept h) (sound-holds h) _ _ (sym c.find_account.ensures ∙ c.in-At-find_account.is)
+
+pub load_header-h-requires : goal.load_header-h-requires
+load_header-h-requires c = (sound-long c.requires.0).counts
+
+pub returns-then-not-is_open : goal.returns-then-not-is_open
+returns-then-not-is_open c =
+    let s = start c.before in
+    asked-shut (book s) (deal s) s.args.number (open_at c.before ∙ not-true _ c.if-not-is_open.true-raw)
+
+pub find_contract-requires : goal.find_contract-requires
+find_contract-requires c = let h = (start c.before).requires.0 in ((sound-long h).counts, sound-listed h)
+
+pub returns-in_default : goal.returns-in_default
+returns-in_default c =
+    let s = start c.before.before.before.before in
+    let h = s.pre.0 in
+    asked-unlisted (book s) (deal s) s.args.number (live c.before.before.before)
+    (code-none (sound-kept h) (sound-holds h) (deal s).code (sym c.find_contract.ensures ∙ c.in_default.is))
+
+pub find_account-requires : goal.find_account-requires
+find_account-requires c = let h = (start-k c.before).requires.0 in ((sound-long h).counts, sound-members h)
+
+pub returns-in_default-find_account : goal.returns-in_default-find_account
+returns-in_default-find_account c =
+    let found = c.before.before in
+    let s = start-k c.before.before.before.before in
+    let h = s.pre.0 in
+    asked-unknown (book s) (deal s) s.args.number (live (before-k c.before.before.before.before)) (has_here (contract c.before.before.before.before))
+    (member-none (sound-kept h) (sound-holds h) s.args.number (sym c.find_account.ensures ∙ c.in_default-find_account.is))
+
+pub side_totals-requires : goal.side_totals-requires
+side_totals-requires c =
+    let s = start-i c.before in record {
+      sound = s.pre.0;
+      live = live (before-k (before-i c.before));
+      contract = contract (before-i c.before);
+      side = side c.before;
+      range = s.pre.1.0;
+      party = s.pre.1.1;
+    }
+
+pub returns : goal.returns
+returns c =
+    let k = before-i c.before.before in
+    let s = start-i c.before.before in
+    asked-totals (book s) (deal s) s.args.number (live (before-k k)) (has_here (contract k)) (has_here (side c.before.before)) c.side_totals.ensures
