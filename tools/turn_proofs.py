@@ -71,7 +71,10 @@ class Names:
         """How many places to lies above place, or None."""
         n = 0
         while place and place != to:
-            place = self.places[place]["parent"]
+            # The places of one arm of a match are one to an answer.
+            arm = self.places[place]["arm"]
+            for _ in range(arm[1] if arm else 1):
+                place = self.places[place]["parent"] if place and place != to else place
             n += 1
         return n if place else None
 
@@ -302,6 +305,11 @@ class Turner:
             at = m.end()
         out.append(text[at:])
         text = "".join(out).replace(".type-inv", ".type_inv")
+        steps = {it["new"]: self.n.callees[q] for q, it in self.n.places.items() if self.n.callees[q]}
+        for m in re.finditer(r"\blet (" + IDENT + r") = " + IDENT + r"\.([\w'-]+)\s+in\b", text):
+            if m.group(2) in steps:
+                for i, name in enumerate(self.lent(steps[m.group(2)])):
+                    text = re.sub(r"(?<![\w'.-])" + re.escape(m.group(1)) + rf"\.auto\.{i}\b", f"{m.group(1)}.auto.{name}", text)
         for v, chain in bound.items():
             rest = re.sub(r"\blet " + re.escape(v) + r" = [\w.'-]+\s+in\b", "", text)
             if not re.search(r"(?<![\w'.-])" + re.escape(v) + r"(?![\w'-])", rest):

@@ -14,7 +14,6 @@ use Rattle.booking.specs.Variation.{variation_at, variation}
 use Rattle.booking.specs.BoundLaws.{variation-each}
 use Rattle.booking.proofs.variation.Goals as goal
 use Rattle.booking.proofs.variation.Goals.{After-variation_at-booked}
-use Rattle.booking.proofs.variation.Invariants.{sum}
 
 pub loop-row-init : goal.loop-row-init
 loop-row-init c = (sym (sum-none (zipped variation_at c.args.positions c.args.marks)), omega arith)
@@ -23,6 +22,17 @@ pub variation_at-booked-requires : goal.variation_at-booked-requires
 variation_at-booked-requires c =
     let row = c.loop-row.row in
     (modest-at c.requires.0 row, c.requires.1.at row)
+
+abbrev sum : (c : After-variation_at-booked)
+    → let l = c.loop-row in
+    Got 1506000000000000 (sum_z (take (l.row + 1) (zipped variation_at c.args.positions c.args.marks)))
+sum c =
+    let l = c.loop-row in
+    got
+    (row_more variation_at no_mark c.args.positions c.args.marks c.requires.0.nets.six c.requires.1.six l.row (variation-each c.requires.0 c.requires.1) tt
+    (omega arith)
+    l.invariant.0
+    c.variation_at-booked.ensures)
 
 pub overflow_add-sum : goal.overflow_add-sum
 overflow_add-sum c = fits (sum c).reads tt

@@ -29,16 +29,16 @@ abbrev both : (s : Start)
 both s = got (add (kept (today s).reads tt) (kept (held s).reads tt))
 
 pub overflow_sub-today : goal.overflow_sub-today
-overflow_sub-today c = fits (lots c.before.before).reads tt
+overflow_sub-today c = fits (lots c.before.before.before).reads tt
 
 pub overflow_mul-today : goal.overflow_mul-today
-overflow_mul-today c = fits (worth c.before.before.before.before).reads tt
+overflow_mul-today c = fits (worth c.before.before.before.before.before).reads tt
 
 pub overflow_sub-today-2 : goal.overflow_sub-today-2
-overflow_sub-today-2 c = fits (today c.before.before.before.before.before.before).reads tt
+overflow_sub-today-2 c = fits (today c.before.before.before.before.before.before.before).reads tt
 
 pub overflow_sub-held : goal.overflow_sub-held
-overflow_sub-held c = fits (move c.before.before.before.before.before.before.before.before).reads tt
+overflow_sub-held c = fits (move c.before.before.before.before.before.before.before.before.before).reads tt
 
 pub overflow_mul-held : goal.overflow_mul-held
 overflow_mul-held c = fits (held c.before.before.before.before.before.before.before.before.before.before).reads tt

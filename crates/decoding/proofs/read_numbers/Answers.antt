@@ -12,17 +12,6 @@ use Rattle.decoding.specs.Place.{stored, stored_from, ended}
 use Rattle.numbers.specs.SeveralLaws.{not_some}
 use Rattle.decoding.specs.PlaceLaws.{Ran, ran, short, value-is, bad-is, many-bad, joined, joined-nil, joined_step, stored-end, store-next}
 use Rattle.decoding.proofs.read_numbers.Goals as goal
-use Rattle.decoding.proofs.read_numbers.Goals.{Else-bytes-at, In-Next}
-
--- within the bytes, what is stored goes by the numbers that stand there
-within : (c : Else-bytes-at) → let a = c.args in stored_from a.bytes.now a.at a.room.now ≡ stored a.bytes.now a.room.now (many (length a.room.now) (drop a.at a.bytes.now))
-within c = let a = c.args in rw (le-ltb (length a.bytes.now) a.at c.if-bytes-at.false)
-
--- the numbers that were counted
-counted : (c : In-Next) → let a = c.args in Ran a.bytes.now a.at (length a.room.now) c.in-Next.last
-counted c =
-    let a = c.args in
-    ran a.bytes.now a.at (length a.room.now) _ (λ i. (c.shared_slice_known-1.given i).fits) c.if-bytes-at.false (sym c.skip_numbers.ensures ∙ c.in-Next.is)
 
 pub returns-then-bytes-at : goal.returns-then-bytes-at
 returns-then-bytes-at c =
@@ -35,9 +24,11 @@ skip_numbers-requires c = c.if-bytes-at.false
 
 pub returns-in_default : goal.returns-in_default
 returns-in_default c =
+    let within : let a = c.args in stored_from a.bytes.now a.at a.room.now ≡ stored a.bytes.now a.room.now (many (length a.room.now) (drop a.at a.bytes.now)) =
+        let a = c.args in rw (le-ltb (length a.bytes.now) a.at c.if-bytes-at.false) in
     let a = c.args in
     let none = short a.bytes.now (many (length a.room.now) (drop a.at a.bytes.now)) (sym c.skip_numbers.ensures ∙ c.in_default.is) in
-    (rw (within c.before.before.before, none), rw (within c.before.before.before, none))
+    (rw (within, none), rw (within, none))
 
 pub loop-i-init : goal.loop-i-init
 loop-i-init c =
@@ -51,7 +42,10 @@ shape_of-room-in_default-read_number c = c.loop-i.invariant.4
 
 pub returns-in_default-read_number : goal.returns-in_default-read_number
 returns-in_default-read_number c =
-    let k = counted c.before.before.before.before.before in
+    let counted : let a = c.args in Ran a.bytes.now a.at (length a.room.now) c.in-Next.last =
+        let a = c.args in
+    ran a.bytes.now a.at (length a.room.now) _ (λ i. (c.shared_slice_known-1.given i).fits) c.if-bytes-at.false (sym c.skip_numbers.ensures ∙ c.in-Next.is) in
+    let k = counted in
     let a = c.args in
     let s = a.bytes.now in
     let v = c.loop-i.invariant in
@@ -83,6 +77,8 @@ shape_of-room c = c.loop-i.invariant.4
 pub returns : goal.returns
 unfolding many
 returns c =
+    let within : let a = c.args in stored_from a.bytes.now a.at a.room.now ≡ stored a.bytes.now a.room.now (many (length a.room.now) (drop a.at a.bytes.now)) =
+        let a = c.args in rw (le-ltb (length a.bytes.now) a.at c.if-bytes-at.false) in
     let l = c.before in
     let r = c.args in
     let s = r.bytes.now in
@@ -94,4 +90,4 @@ returns c =
     let past : length room ≤ c.loop-i.i = omega (arith, v.4) in
     let full : a ++ drop c.loop-i.i room ≡ a = rw (drop_of_length-le room past, append-nil a) in
     let ended-last : ended s (many (length room) (drop r.at s)) ≡ Next c.in-Next.last = sym c.skip_numbers.ensures ∙ c.in-Next.is in
-    (rw (within c.before.before.before.before.before.before) (sym (stored-end s room (many (length room) (drop r.at s)) ∙ ended-last)), rw (within c.before.before.before.before.before.before, all) (v.5 ∙ full))
+    (rw within (sym (stored-end s room (many (length room) (drop r.at s)) ∙ ended-last)), rw (within, all) (v.5 ∙ full))

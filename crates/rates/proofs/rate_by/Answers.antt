@@ -14,11 +14,11 @@ divides : {rule : Rule} (s : Start) → s.args.rule ≡ rule → Divides rule s.
 divides s e = subst (λ r. Divides r s.args.t) e s.requires.1
 
 pub nearest_to-requires : goal.nearest_to-requires
-nearest_to-requires c = divides c.before.before.before c.in-LastHour.is
+nearest_to-requires c = divides c.before.before c.in-LastHour.is
 
 pub nearest_to-requires-in-LastFive : goal.nearest_to-requires-in-LastFive
 nearest_to-requires-in-LastFive c =
-    rw c.mean_of-mean.ensures (divides c.before.before.before.before c.in-LastFive.is)
+    rw c.mean_of-mean.ensures (divides c.before.before.before c.in-LastFive.is)
 
 pub half_of-half-requires : goal.half_of-half-requires
 half_of-half-requires c = (c.requires.0.quotes 0, c.requires.0.quotes 1)
@@ -26,7 +26,7 @@ half_of-half-requires c = (c.requires.0.quotes 0, c.requires.0.quotes 1)
 pub nearest_to-requires-in-Quotes : goal.nearest_to-requires-in-Quotes
 nearest_to-requires-in-Quotes c =
     let quoted = c.before.before.before.before in
-    let d = divides c.before.before.before.before.before.before c.in-Quotes.is in
+    let d = divides c.before.before.before.before.before c.in-Quotes.is in
     rw c.half_of-half.ensures (halfway-weighs (side_in c.args.t 0) (side_in c.args.t 1) d.0 d.1)
 
 pub returns-in-LastHour : goal.returns-in-LastHour

@@ -46,15 +46,15 @@ module _ (c : In-Next-2) where
   abbrev more : ℕ
   more = c.in-Next.more
   bytes_small : Small s
-  bytes_small = small c.before.before.before.before.before.before.before.before.before.before.before
+  bytes_small = small
   moved : Moved s at kind start
-  moved = number c.before.before.before.before.before.before.before.before
+  moved = number
   kind-known : known kind ≡ true
-  kind-known = is_known kind (fields-known c.before.before.before.before).0
+  kind-known = is_known kind fields-known.0
   numbers : Ran s start c.in-Of.n more
-  numbers = ran s start c.in-Of.n more bytes_small moved.inside (fields-end c.before.before ∙ c.in-Next.is)
+  numbers = ran s start c.in-Of.n more bytes_small moved.inside (fields-end ∙ c.in-Next.is)
   numbers-is : many (count kind) (drop start s) ≡ some numbers.list (drop more s)
-  numbers-is = ap (λ z. many z (drop start s)) (sym (fields-known c.before.before.before.before).1) ∙ numbers.is
+  numbers-is = ap (λ z. many z (drop start s)) (sym fields-known.1) ∙ numbers.is
   row : c.read_fields-read.result.values ≡ padded numbers.list
   row = ap (λ f. f.values) (c.read_fields-read.ensures ∙ ap (filled s) numbers.is)
 
@@ -65,18 +65,31 @@ returns-in_default c =
 
 pub returns-in_default-count_of : goal.returns-in_default-count_of
 returns-in_default-count_of c =
-    c.malformed-in_default-count_of.ensures ∙ sym (no_kind _ _ _ _ (number c.before.before.before.before.before) (is-unknown _ (uncounted _ (sym c.count_of.ensures ∙ c.in_default-count_of.is))))
+    let number : let a = c.args in Moved a.bytes.now a.at c.in-Value.kind c.in-Value.start =
+        value-is _ _ _ _ (sym c.read_number.ensures ∙ c.in-Value.is) in
+    c.malformed-in_default-count_of.ensures ∙ sym (no_kind _ _ _ _ number (is-unknown _ (uncounted _ (sym c.count_of.ensures ∙ c.in_default-count_of.is))))
 
 pub read_fields-read-requires : goal.read_fields-read-requires
 read_fields-read-requires c =
-    ((number c.before.before.before.before.before).inside, rw (fields-known c.before).1 (counts-most c.in-Value.kind))
+    let number : let a = c.args in Moved a.bytes.now a.at c.in-Value.kind c.in-Value.start =
+        value-is _ _ _ _ (sym c.read_number.ensures ∙ c.in-Value.is) in
+    let fields-known : let k = c.in-Value.kind in (k < 13) × (c.in-Of.n ≡ count k) =
+        counted _ _ (sym c.count_of.ensures ∙ c.in-Of.is) in
+    (number.inside, rw fields-known.1 (counts-most c.in-Value.kind))
 
 pub returns-in_default-end : goal.returns-in_default-end
 returns-in_default-end c =
+    let fields-known : let k = c.in-Value.kind in (k < 13) × (c.in-Of.n ≡ count k) =
+        counted _ _ (sym c.count_of.ensures ∙ c.in-Of.is) in
+    let number : let a = c.args in Moved a.bytes.now a.at c.in-Value.kind c.in-Value.start =
+        value-is _ _ _ _ (sym c.read_number.ensures ∙ c.in-Value.is) in
+    let fields-end : let s = c.args.bytes.now in ended s (many c.in-Of.n (drop c.in-Value.start s)) ≡ c.read_fields-read.result.end =
+        let s = c.args.bytes.now in
+    sym (filled-end s (many c.in-Of.n (drop c.in-Value.start s))) ∙ ap (λ f. f.end) (sym c.read_fields-read.ensures) in
     let s = c.args.bytes.now in
-    let f = fields-known c.before.before.before.before.before in
+    let f = fields-known in
     c.malformed-in_default-end.ensures
-    ∙ sym (no_fields _ _ _ _ (number c.before.before.before.before.before.before.before.before.before) (is_known _ f.0) (ap (λ z. many z (drop c.in-Value.start s)) (sym f.1) ∙ short s _ (fields-end c.before.before.before ∙ c.in_default-end.is)))
+    ∙ sym (no_fields _ _ _ _ number (is_known _ f.0) (ap (λ z. many z (drop c.in-Value.start s)) (sym f.1) ∙ short s _ (fields-end ∙ c.in_default-end.is)))
 
 pub with_exceptions-requires : goal.with_exceptions-requires
 with_exceptions-requires c = (numbers c.before.before).inside

@@ -15,7 +15,7 @@ use Rattle.records.specs.Records.{entry, writing}
 use Rattle.records.specs.Writing.{out}
 use Rattle.records.specs.WritingLaws.{size-record, size-short, all-put, not-shaped, no_room, done}
 use Rattle.records.proofs.write_record.Goals as goal
-use Rattle.records.proofs.write_record.Goals.{After-numbers_size-2, Else-not-is_shaped, In-Of-2}
+use Rattle.records.proofs.write_record.Goals.{Else-not-is_shaped, In-Of-2}
 
 has-shape : (c : Else-not-is_shaped) → let a = c.args in shaped a.kind a.t3 (length a.exceptions.now) ≡ true
 has-shape c = sym c.is_shaped.ensures ∙ not-false _ c.if-not-is_shaped.false-raw
@@ -37,7 +37,7 @@ module _ (c : In-Of-2) where
   abbrev bytes : List ℕ
   bytes = writing (entry kind own exceptions)
   shape : shaped kind cells (length exceptions) ≡ true
-  shape = has-shape c.before.before.before
+  shape = has-shape
   n-is : n ≡ count kind
   n-is = (counted kind n (sym c.count_of.ensures ∙ c.in-Of.is)).1
   thirteen : length cells ≡ 13
@@ -51,11 +51,6 @@ module _ (c : In-Of-2) where
   exceptions-few : length exceptions ≤ 400
   exceptions-few = let s = shape-tells kind cells (length exceptions) shape in omega (arith, s.few, s.there)
 
-sizes : (c : After-numbers_size-2) → let e = c.before.before.before.before.before in c.number_size.result + c.numbers_size.result + c.numbers_size-2.result ≡ length (bytes e)
-sizes c =
-    let e = c.before.before.before.before.before in
-    omega (arith, size-record (kind e) (own e) (exceptions e), c.number_size.ensures, c.numbers_size.ensures, c.numbers_size-2.ensures)
-
 pub returns-then-not-is_shaped : goal.returns-then-not-is_shaped
 returns-then-not-is_shaped c =
     let a = c.args in
@@ -63,9 +58,11 @@ returns-then-not-is_shaped c =
 
 pub returns-in_default : goal.returns-in_default
 returns-in_default c =
+    let has-shape : let a = c.args in shaped a.kind a.t3 (length a.exceptions.now) ≡ true =
+        sym c.is_shaped.ensures ∙ not-false _ c.if-not-is_shaped.false-raw in
     let a = c.args in
     let past = uncounted a.kind (sym c.count_of.ensures ∙ c.in_default.is) in
-    let below = (shape-tells a.kind a.t3 (length a.exceptions.now) (has-shape c.before.before.before)).below in
+    let below = (shape-tells a.kind a.t3 (length a.exceptions.now) has-shape).below in
     absurd (omega arith)
 
 pub slice_bounds-fields-end : goal.slice_bounds-fields-end
@@ -86,8 +83,11 @@ overflow_add-size-2 c =
 
 pub returns-then-room-size : goal.returns-then-room-size
 returns-then-room-size c =
+    let sizes : let e = c.before.before.before.before.before in c.number_size.result + c.numbers_size.result + c.numbers_size-2.result ≡ length (bytes e) =
+        let e = c.before.before.before.before.before in
+    omega (arith, size-record (kind e) (own e) (exceptions e), c.number_size.ensures, c.numbers_size.ensures, c.numbers_size-2.ensures) in
     let e = c.before.before.before.before.before.before in
-    sym (no_room (room e) (kind e) (cells e) (exceptions e) (shape e) (n e) (n-is e) (subst (λ z. length (room e) < z) (sizes c.before) c.if-room-size.true))
+    sym (no_room (room e) (kind e) (cells e) (exceptions e) (shape e) (n e) (n-is e) (subst (λ z. length (room e) < z) sizes c.if-room-size.true))
 
 pub slice_bounds-fields-end-2 : goal.slice_bounds-fields-end-2
 slice_bounds-fields-end-2 c = within c.before.before.before.before.before.before.before.before.before.before.before
@@ -97,13 +97,16 @@ slice_bounds-write_numbers-end c = sym (own-long c.before.before.before.before.b
 
 pub returns : goal.returns
 returns c =
+    let sizes : let e = c.before.before.before.before.before in c.number_size.result + c.numbers_size.result + c.numbers_size-2.result ≡ length (bytes e) =
+        let e = c.before.before.before.before.before in
+    omega (arith, size-record (kind e) (own e) (exceptions e), c.number_size.ensures, c.numbers_size.ensures, c.numbers_size-2.ensures) in
     let x = c.write_number-first in
     let y = c.write_numbers-second in
     let z = c.write_numbers-last in
     let l = c.before.before.before.before.before.before.before.before.before.before.before.before.before in
     let e = l.before.before.before.before.before.before in
     let size = size-record (kind e) (own e) (exceptions e) in
-    let h : length (bytes e) ≤ length (room e) = subst (λ k. k ≤ length (room e)) (sizes c.before.before.before.before.before.before.before.before.before.before.before.before.before.before) c.if-room-size.false in
+    let h : length (bytes e) ≤ length (room e) = subst (λ k. k ≤ length (room e)) sizes c.if-room-size.false in
     let i : z.result ≡ length (bytes e) = omega (arith, z.ensures.0, y.ensures.0, x.ensures.0) in
     ap₂ (λ (k : ℕ) (r : List ℕ). out (Done k) r) i
     (all-put (room e) _ _ _ (kind e) (own e) (exceptions e) _ _ (omega arith) x.ensures.0 y.ensures.0 x.ensures.1 y.ensures.1 z.ensures.1)
