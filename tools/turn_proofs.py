@@ -305,6 +305,8 @@ class Turner:
             at = m.end()
         out.append(text[at:])
         text = "".join(out).replace(".type-inv", ".type_inv")
+        for a, b in self.n.args.items():
+            text = re.sub(r"(?<=[\w'])\." + re.escape(a) + r"(?![\w'-])", "." + b, text)
         steps = {it["new"]: self.n.callees[q] for q, it in self.n.places.items() if self.n.callees[q]}
         for m in re.finditer(r"\blet (" + IDENT + r") = " + IDENT + r"\.([\w'-]+)\s+in\b", text):
             if m.group(2) in steps:

@@ -8,6 +8,8 @@ use lib.ListN.{length, take}
 use lib.Seq.{length-take-le}
 use borrow.Author.Rules.{rules}
 use borrow.Author.Tests.{not-true, not-false}
+use Rattle.numbers.specs.Seven.{encode}
+use Rattle.numbers.specs.Several.{write_of}
 use Rattle.fields.specs.Fields.{count, shaped}
 use Rattle.fields.specs.FieldLaws.{counts-most, counted, uncounted, shape-tells}
 use Rattle.records.specs.declared.Written.TheVariants.{Done}
@@ -15,99 +17,102 @@ use Rattle.records.specs.Records.{entry, writing}
 use Rattle.records.specs.Writing.{out}
 use Rattle.records.specs.WritingLaws.{size-record, size-short, all-put, not-shaped, no_room, done}
 use Rattle.records.proofs.write_record.Goals as goal
-use Rattle.records.proofs.write_record.Goals.{Else-not-is_shaped, In-Of-2}
 
-has-shape : (c : Else-not-is_shaped) → let a = c.args in shaped a.kind a.t3 (length a.exceptions.now) ≡ true
-has-shape c = sym c.is_shaped.ensures ∙ not-false _ c.if-not-is_shaped.false-raw
-
--- ---- the record
-module _ (c : In-Of-2) where
-  abbrev room : List ℕ
-  room = c.args.room.now
-  abbrev kind : ℕ
-  kind = c.args.kind
-  abbrev cells : List ℕ
-  cells = c.args.fields
-  abbrev exceptions : List ℕ
-  exceptions = c.args.exceptions.now
-  abbrev n : ℕ
-  n = c.in-Of.n
-  abbrev own : List ℕ
-  own = take n cells
-  abbrev bytes : List ℕ
-  bytes = writing (entry kind own exceptions)
+-- What is known of a row that has the format's shape, and of how many fields its kind has.
+record Row (kind n : ℕ) (cells exceptions : List ℕ) : Type 0 where
   shape : shaped kind cells (length exceptions) ≡ true
-  shape = has-shape
-  n-is : n ≡ count kind
-  n-is = (counted kind n (sym c.count_of.ensures ∙ c.in-Of.is)).1
+  fields : n ≡ count kind
   thirteen : length cells ≡ 13
-  thirteen = search rules
+
+module _ (kind n : ℕ) (cells exceptions : List ℕ) (known : Row kind n cells exceptions) where
   within : n ≤ length cells
-  within = omega (arith, n-is, counts-most kind, thirteen)
-  own-long : length own ≡ n
+  within = omega (arith, known.fields, counts-most kind, known.thirteen)
+
+  own-long : length (take n cells) ≡ n
   own-long = length-take-le n cells within
-  own-short : length own ≤ 13
-  own-short = omega (arith, own-long, n-is, counts-most kind)
-  exceptions-few : length exceptions ≤ 400
-  exceptions-few = let s = shape-tells kind cells (length exceptions) shape in omega (arith, s.few, s.there)
+
+  own-short : length (take n cells) ≤ 13
+  own-short = omega (arith, own-long, known.fields, counts-most kind)
+
+  few : length exceptions ≤ 400
+  few = let s = shape-tells kind cells (length exceptions) known.shape in omega (arith, s.few, s.there)
+
+  short : length (encode kind) + length (write_of (take n cells)) + length (write_of exceptions) ≤ 4140
+  short = size-short kind (take n cells) exceptions own-short few
 
 pub returns-then-not-is_shaped : goal.returns-then-not-is_shaped
 returns-then-not-is_shaped c =
     let a = c.args in
-    sym (not-shaped a.room.now a.kind a.t3 a.exceptions.now (sym c.is_shaped.ensures ∙ not-true _ c.if-not-is_shaped.true-raw))
+    sym (not-shaped a.room.now a.kind a.fields a.exceptions.now (sym c.is_shaped.ensures ∙ not-true _ c.if-not-is_shaped.true-raw))
 
 pub returns-in_default : goal.returns-in_default
 returns-in_default c =
-    let has-shape : let a = c.args in shaped a.kind a.t3 (length a.exceptions.now) ≡ true =
-        sym c.is_shaped.ensures ∙ not-false _ c.if-not-is_shaped.false-raw in
     let a = c.args in
     let past = uncounted a.kind (sym c.count_of.ensures ∙ c.in_default.is) in
-    let below = (shape-tells a.kind a.t3 (length a.exceptions.now) has-shape).below in
+    let shape = sym c.is_shaped.ensures ∙ not-false _ c.if-not-is_shaped.false-raw in
+    let below = (shape-tells a.kind a.fields (length a.exceptions.now) shape).below in
     absurd (omega arith)
 
 pub slice_bounds-fields-end : goal.slice_bounds-fields-end
-slice_bounds-fields-end c = within c.before.before
+slice_bounds-fields-end c =
+    let known : Row c.args.kind c.in-Of.n c.args.fields c.args.exceptions.now = record { shape = sym c.is_shaped.ensures ∙ not-false _ c.if-not-is_shaped.false-raw; fields = (counted c.args.kind c.in-Of.n (sym c.count_of.ensures ∙ c.in-Of.is)).1; thirteen = search rules } in
+    within _ _ _ _ known
 
 pub slice_bounds-numbers_size-end : goal.slice_bounds-numbers_size-end
-slice_bounds-numbers_size-end c = sym (own-long c.before.before.before)
+slice_bounds-numbers_size-end c =
+    let known : Row c.args.kind c.in-Of.n c.args.fields c.args.exceptions.now = record { shape = sym c.is_shaped.ensures ∙ not-false _ c.if-not-is_shaped.false-raw; fields = (counted c.args.kind c.in-Of.n (sym c.count_of.ensures ∙ c.in-Of.is)).1; thirteen = search rules } in
+    sym (own-long _ _ _ _ known)
 
 pub overflow_add-size : goal.overflow_add-size
 overflow_add-size c =
-    let e = c.before.before.before.before in
-    omega (arith, c.number_size.ensures, c.numbers_size.ensures, size-short (kind e) (own e) (exceptions e) (own-short e) (exceptions-few e))
+    let known : Row c.args.kind c.in-Of.n c.args.fields c.args.exceptions.now = record { shape = sym c.is_shaped.ensures ∙ not-false _ c.if-not-is_shaped.false-raw; fields = (counted c.args.kind c.in-Of.n (sym c.count_of.ensures ∙ c.in-Of.is)).1; thirteen = search rules } in
+    omega (arith, c.number_size.ensures, c.numbers_size.ensures, short _ _ _ _ known)
 
 pub overflow_add-size-2 : goal.overflow_add-size-2
 overflow_add-size-2 c =
-    let e = c.before.before.before.before.before in
-    omega (arith, c.number_size.ensures, c.numbers_size.ensures, c.numbers_size-2.ensures, size-short (kind e) (own e) (exceptions e) (own-short e) (exceptions-few e))
+    let known : Row c.args.kind c.in-Of.n c.args.fields c.args.exceptions.now = record { shape = sym c.is_shaped.ensures ∙ not-false _ c.if-not-is_shaped.false-raw; fields = (counted c.args.kind c.in-Of.n (sym c.count_of.ensures ∙ c.in-Of.is)).1; thirteen = search rules } in
+    omega (arith, c.number_size.ensures, c.numbers_size.ensures, c.numbers_size-2.ensures, short _ _ _ _ known)
 
 pub returns-then-room-size : goal.returns-then-room-size
 returns-then-room-size c =
-    let sizes : let e = c.before.before.before.before.before in c.number_size.result + c.numbers_size.result + c.numbers_size-2.result ≡ length (bytes e) =
-        let e = c.before.before.before.before.before in
-    omega (arith, size-record (kind e) (own e) (exceptions e), c.number_size.ensures, c.numbers_size.ensures, c.numbers_size-2.ensures) in
-    let e = c.before.before.before.before.before.before in
-    sym (no_room (room e) (kind e) (cells e) (exceptions e) (shape e) (n e) (n-is e) (subst (λ z. length (room e) < z) sizes c.if-room-size.true))
+    let room = c.args.room.now in
+    let kind = c.args.kind in
+    let n = c.in-Of.n in
+    let cells = c.args.fields in
+    let exceptions = c.args.exceptions.now in
+    let bytes = writing (entry kind (take n cells) exceptions) in
+    let known : Row kind n cells exceptions = record { shape = sym c.is_shaped.ensures ∙ not-false _ c.if-not-is_shaped.false-raw; fields = (counted c.args.kind c.in-Of.n (sym c.count_of.ensures ∙ c.in-Of.is)).1; thirteen = search rules } in
+    let sizes : c.number_size.result + c.numbers_size.result + c.numbers_size-2.result ≡ length bytes =
+        omega (arith, size-record kind (take n cells) exceptions, c.number_size.ensures, c.numbers_size.ensures, c.numbers_size-2.ensures) in
+    sym (no_room room kind cells exceptions known.shape n known.fields (subst (λ z. length room < z) sizes c.if-room-size.true))
 
 pub slice_bounds-fields-end-2 : goal.slice_bounds-fields-end-2
-slice_bounds-fields-end-2 c = within c.before.before.before.before.before.before.before.before.before.before.before
+slice_bounds-fields-end-2 c =
+    let known : Row c.args.kind c.in-Of.n c.args.fields c.args.exceptions.now = record { shape = sym c.is_shaped.ensures ∙ not-false _ c.if-not-is_shaped.false-raw; fields = (counted c.args.kind c.in-Of.n (sym c.count_of.ensures ∙ c.in-Of.is)).1; thirteen = search rules } in
+    within _ _ _ _ known
 
 pub slice_bounds-write_numbers-end : goal.slice_bounds-write_numbers-end
-slice_bounds-write_numbers-end c = sym (own-long c.before.before.before.before.before.before.before.before.before.before.before.before)
+slice_bounds-write_numbers-end c =
+    let known : Row c.args.kind c.in-Of.n c.args.fields c.args.exceptions.now = record { shape = sym c.is_shaped.ensures ∙ not-false _ c.if-not-is_shaped.false-raw; fields = (counted c.args.kind c.in-Of.n (sym c.count_of.ensures ∙ c.in-Of.is)).1; thirteen = search rules } in
+    sym (own-long _ _ _ _ known)
 
 pub returns : goal.returns
 returns c =
-    let sizes : let e = c.before.before.before.before.before in c.number_size.result + c.numbers_size.result + c.numbers_size-2.result ≡ length (bytes e) =
-        let e = c.before.before.before.before.before in
-    omega (arith, size-record (kind e) (own e) (exceptions e), c.number_size.ensures, c.numbers_size.ensures, c.numbers_size-2.ensures) in
+    let room = c.args.room.now in
+    let kind = c.args.kind in
+    let n = c.in-Of.n in
+    let cells = c.args.fields in
+    let exceptions = c.args.exceptions.now in
+    let bytes = writing (entry kind (take n cells) exceptions) in
+    let known : Row kind n cells exceptions = record { shape = sym c.is_shaped.ensures ∙ not-false _ c.if-not-is_shaped.false-raw; fields = (counted c.args.kind c.in-Of.n (sym c.count_of.ensures ∙ c.in-Of.is)).1; thirteen = search rules } in
+    let size = size-record kind (take n cells) exceptions in
+    let sizes : c.number_size.result + c.numbers_size.result + c.numbers_size-2.result ≡ length bytes =
+        omega (arith, size, c.number_size.ensures, c.numbers_size.ensures, c.numbers_size-2.ensures) in
     let x = c.write_number-first in
     let y = c.write_numbers-second in
     let z = c.write_numbers-last in
-    let l = c.before.before.before.before.before.before.before.before.before.before.before.before.before in
-    let e = l.before.before.before.before.before.before in
-    let size = size-record (kind e) (own e) (exceptions e) in
-    let h : length (bytes e) ≤ length (room e) = subst (λ k. k ≤ length (room e)) sizes c.if-room-size.false in
-    let i : z.result ≡ length (bytes e) = omega (arith, z.ensures.0, y.ensures.0, x.ensures.0) in
+    let h : length bytes ≤ length room = subst (λ k. k ≤ length room) sizes c.if-room-size.false in
+    let i : z.result ≡ length bytes = omega (arith, z.ensures.0, y.ensures.0, x.ensures.0) in
     ap₂ (λ (k : ℕ) (r : List ℕ). out (Done k) r) i
-    (all-put (room e) _ _ _ (kind e) (own e) (exceptions e) _ _ (omega arith) x.ensures.0 y.ensures.0 x.ensures.1 y.ensures.1 z.ensures.1)
-    ∙ sym (done (room e) (kind e) (cells e) (exceptions e) (shape e) (n e) (n-is e) h)
+    (all-put room _ _ _ kind (take n cells) exceptions _ _ (omega arith) x.ensures.0 y.ensures.0 x.ensures.1 y.ensures.1 z.ensures.1)
+    ∙ sym (done room kind cells exceptions known.shape n known.fields h)
