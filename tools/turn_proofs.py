@@ -206,14 +206,14 @@ class Turner:
             lent = self.lent(self.n.callees[p])
             if int(rest[1]) < len(lent):
                 rest[1] = lent[int(rest[1])]
+        if rest[:1] == ["taken"] and it["new"].startswith(("if-", "loop-")):
+            rest[0] = "true"
+        if rest[:1] == ["left"] and it["new"].startswith(("if-", "loop-")):
+            rest[0] = "false"
         for a, b in it["renames"]:
             if rest and rest[0] == a:
                 rest[0] = b
                 break
-        if rest[:1] == ["taken"]:
-            rest[0] = "true"
-        if rest[:1] == ["left"] and it["new"].startswith("if-"):
-            rest[0] = "false"
         return ".".join([var, it["new"]] + rest), None
 
     def wanted(self, before):

@@ -60,11 +60,11 @@ unfolding after
 returns c =
     let done = c.before.before.before in
     let left = done.before.before.before in
-    let rows = subst (λ z. Holds c.close_rows.new.0 c.close_rows.new.1.0 (closed_rows z (rows_of (book c.before.before.before.before.before.before.before.before.before.before))))
-    (back c.ranges.final_rate) (c.close_rows.ensures (rows_of (book c.before.before.before.before.before.before.before.before.before.before)) (sound-whole c.requires.0)).holds in
+    let rows = subst (λ z. Holds c.close_rows.new.0 c.close_rows.new.1.0 (closed_rows z (rows_of (book c.before.before.before.before.before.before.before.before.before.before.before))))
+    (back c.ranges.final_rate) (c.close_rows.ensures (rows_of (book c.before.before.before.before.before.before.before.before.before.before.before)) (sound-whole c.requires.0)).holds in
     record {
-      answers = sym (first-passed 3 [] (settled c.before.before.before.before.before.before) ∙ none_left);
+      answers = sym (first-passed 3 [] (settled c.before.before.before.before.before.before.before) ∙ none_left);
       memory = subst (Holds c.close_rows.new.0 c.close_rows.new.1.0)
-          (close-rows (book c.before.before.before.before.before.before.before.before.before.before) (sound-kept c.requires.0) (still_open c.before.before.before.before.before.before) c.args.final_rate)
+          (close-rows (book c.before.before.before.before.before.before.before.before.before.before.before) (sound-kept c.requires.0) (still_open c.before.before.before.before.before.before.before) c.args.final_rate)
           rows;
     }

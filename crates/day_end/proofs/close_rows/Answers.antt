@@ -90,4 +90,4 @@ pub returns : goal.returns
 returns c =
     let last = c.before.before in
     let renew = last.before.before.before.before.before in
-    shut-whole _ (ended-then r (ending (booking c.before.before.before.before.before.before.before)) w) (renewed-then r renew w) c.shut_header.ensures
+    shut-whole _ (ended-then r (ending (booking c.before.before.before.before.before.before.before.before)) w) (renewed-then r renew w) c.shut_header.ensures

@@ -46,25 +46,25 @@ place_of-requires c =
     ((sound-long s).counts, sound-members s)
 
 pub load_account-a-requires : goal.load_account-a-requires
-load_account-a-requires c = row-there c.before.before.before c.in-Row.is
+load_account-a-requires c = row-there c.before.before c.in-Row.is
 
 pub paid-payment-requires : goal.paid-payment-requires
 paid-payment-requires c =
     let row = c.before.before.before.before.before in
-    let a = (start c.before.before.before.before.before).args in
-    let low = (start c.before.before.before.before.before).requires.1 in (
-      payer-sound (start c.before.before.before.before.before).requires.0 a.way a.number (pos a.amount) (found c.before.before.before.before.before) c.in-Row.is c.load_account-a.ensures,
+    let a = (start c.before.before.before).args in
+    let low = (start c.before.before.before).requires.1 in (
+      payer-sound (start c.before.before.before).requires.0 a.way a.number (pos a.amount) (found c.before.before.before) c.in-Row.is c.load_account-a.ensures,
       subst (Amount 100000000000000) (sym (unsigned low tt).eq) (amount-pos a.amount low),
     )
 
 pub pay-requires : goal.pay-requires
 pay-requires c =
-    row-there c.before.before.before.before.before.before.before.before c.in-Row.is
+    row-there c.before.before.before.before.before.before c.in-Row.is
 
 pub returns-in-Refused : goal.returns-in-Refused
 returns-in-Refused c =
-    let a = (start c.before.before.before).args in
-    pay-refused (start c.before.before.before).requires.0 a.way a.number (pos a.amount) (found c.before.before.before) c.in-Refused.is
+    let a = (start c.before.before).args in
+    pay-refused (start c.before.before).requires.0 a.way a.number (pos a.amount) (found c.before.before) c.in-Refused.is
 
 pub returns-in-Row : goal.returns-in-Row
 returns-in-Row c =
@@ -72,10 +72,10 @@ returns-in-Row c =
     let paid = done.before.before.before in
     let load = paid.before.before in
     let row = load.before.before.before.before in
-    let a = (start c.before.before.before.before.before.before.before.before.before.before.before.before).args in
-    paid-made (start c.before.before.before.before.before.before.before.before.before.before.before.before).requires.0 a.way a.number (pos a.amount) (found c.before.before.before.before.before.before.before.before.before.before.before.before) c.in-Row.is
+    let a = (start c.before.before.before.before.before.before.before.before.before.before.before).args in
+    paid-made (start c.before.before.before.before.before.before.before.before.before.before.before).requires.0 a.way a.number (pos a.amount) (found c.before.before.before.before.before.before.before.before.before.before.before) c.in-Row.is
     c.load_account-a.ensures
-    (c.paid-payment.ensures ∙ ap (paid_by a.way c.load_account-a.result.funds) (unsigned (start c.before.before.before.before.before.before.before.before.before.before.before.before).requires.1 tt).eq)
+    (c.paid-payment.ensures ∙ ap (paid_by a.way c.load_account-a.result.funds) (unsigned (start c.before.before.before.before.before.before.before.before.before.before.before).requires.1 tt).eq)
     c.pay.ensures.0
     c.pay.ensures.1.0
     c.pay.ensures.1.1

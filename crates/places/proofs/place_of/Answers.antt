@@ -3,18 +3,18 @@ use mathlib.Core.Bool.{true}
 use borrow.Author.Rules.{rules}
 use borrow.Author.Tests.{not-true, not-false}
 use Rattle.places.proofs.place_of.Goals as goal
-use Rattle.places.proofs.place_of.Goals.{Else-not-allowed}
-
-allowed : (c : Else-not-allowed) → c.args.allowed ≡ true
-allowed c = not-false c.args.allowed c.if-not-allowed.false-raw
 
 pub returns-then-not-allowed : goal.returns-then-not-allowed
 returns-then-not-allowed c = rw (not-true c.args.allowed c.if-not-allowed.true-raw)
 
 pub returns-in_default : goal.returns-in_default
 returns-in_default c =
-    rw (allowed c.before.before.before, sym c.find_account.ensures ∙ c.in_default.is)
+    let allowed : c.args.allowed ≡ true =
+        not-false c.args.allowed c.if-not-allowed.false-raw in
+    rw (allowed, sym c.find_account.ensures ∙ c.in_default.is)
 
 pub returns : goal.returns
 returns c =
-    rw (allowed c.before.before.before.before, sym c.find_account.ensures ∙ c.in-At.is)
+    let allowed : c.args.allowed ≡ true =
+        not-false c.args.allowed c.if-not-allowed.false-raw in
+    rw (allowed, sym c.find_account.ensures ∙ c.in-At.is)

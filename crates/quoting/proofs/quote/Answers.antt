@@ -22,7 +22,7 @@ use Rattle.hours.specs.Searched.{code-at, code-none}
 use Rattle.quoting.specs.Quotes.{has_room, quoted_row}
 use Rattle.quoting.specs.QuoteLaws.{shut, unlisted, out-of-hours, too-early, full, done, row_small, contract-in, tally-sound, written}
 use Rattle.quoting.proofs.quote.Goals as goal
-use Rattle.quoting.proofs.quote.Goals.{After-find_contract, After-has_room, After-is_open, After-load_contract-x, After-load_header-h, After-with_quote-x, Else-not-in_hours, Else-not-is_open, Else-time-h, In-At, Start}
+use Rattle.quoting.proofs.quote.Goals.{After-find_contract, After-is_open, After-load_contract-x, After-load_header-h, Else-not-in_hours, Else-not-is_open, Else-time-h, In-At, Start}
 
 abbrev quotation : Start → Quote
 quotation s = record { time = s.args.time; code = s.args.code; side = s.args.side; rate = s.args.rate }
@@ -50,7 +50,7 @@ abbrev before-load : After-load_contract-x → Else-time-h
 before-load c = c.before.before.before
 
 abbrev start-live : Else-not-is_open → Start
-start-live c = start c.before.before
+start-live c = start c.before.before.before
 
 abbrev start-k : In-At → Start
 start-k c = start-live (before-k c)
@@ -66,7 +66,7 @@ open_is : (c : After-is_open) → is_open (book (start c.before)).today.point �
 open_is c = sym (c.is_open.ensures ∙ ap (λ (x : Header). eqb x.point 2 || eqb x.point 3) (header c.before))
 
 live : (c : Else-not-is_open) → is_open (book (start-live c)).today.point ≡ true
-live c = open_is c.before ∙ not-false _ c.if-not-is_open.false-raw
+live c = open_is c.before.before ∙ not-false _ c.if-not-is_open.false-raw
 
 row : (c : In-At) → let s = start-k c in Stands (book s).contracts.codes s.args.code c.in-At.k
 row c =
@@ -82,30 +82,13 @@ clock c =
     let e = ap (λ (x : Header). x.clock) (header (before-k (before-hours (before-clock c))).before.before) in
     le-leb (book s).today.clock s.args.time (omega (arith, e, c.if-time-h.false))
 
-room : (c : After-has_room) → let s = start-clock (before-load c.before.before) in
-    has_room ((book s).contracts.tally s.args.code) s.args.time s.args.side ≡ c.has_room.result
-room c =
-    let q = before-load c.before.before in
-    let s = start-clock q in
-    sym (c.has_room.ensures
-    ∙ ap (λ (x : Contract). has_room x.tally s.args.time s.args.side)
-    (c.load_contract-x.ensures ∙ contract-in s.pre.0 (quotation s) (row (before-hours (before-clock q)))))
-
--- the contract's row with the quote in it
-row-after : (c : After-with_quote-x) → with_tally c.load_contract-x.result c.with_quote-x.result ≡ quoted_row c.load_contract-x.result (quotation (start-clock (before-load c.before.before.before.before.before)))
-row-after c =
-    let s = start-clock (before-load c.before.before.before.before.before) in
-    ap (with_tally c.load_contract-x.result)
-    (c.with_quote-x.ensures
-    ∙ ap (λ rate. with_quote c.load_contract-x.result.tally s.args.time s.args.side (weighted 1 rate)) (arg s.pre.1.rate tt).eq)
-
 pub load_header-h-requires : goal.load_header-h-requires
 load_header-h-requires c = (sound-long c.requires.0).counts
 
 pub returns-then-not-is_open : goal.returns-then-not-is_open
 returns-then-not-is_open c =
-    let s = start c.before.before in
-    shut s.pre.0 (quotation s) (open_is c.before ∙ not-true _ c.if-not-is_open.true-raw)
+    let s = start c.before.before.before in
+    shut s.pre.0 (quotation s) (open_is c.before.before ∙ not-true _ c.if-not-is_open.true-raw)
 
 pub find_contract-requires : goal.find_contract-requires
 find_contract-requires c =
@@ -114,22 +97,29 @@ find_contract-requires c =
 
 pub returns-in_default : goal.returns-in_default
 returns-in_default c =
-    let s = start-live c.before.before.before in
+    let live : is_open (book start-live).today.point ≡ true =
+        open_is c.before.before.before.before ∙ not-false _ c.if-not-is_open.false-raw in
+    let s = start-live in
     let h = s.pre.0 in
-    unlisted h (quotation s) (live c.before.before.before)
+    unlisted h (quotation s) live
     (code-none (sound-kept h) (sound-holds h) s.args.code (sym c.find_contract.ensures ∙ c.in_default.is))
 
 pub returns-then-not-in_hours : goal.returns-then-not-in_hours
 returns-then-not-in_hours c =
-    let s = start-k c.before.before in
-    out-of-hours s.pre.0 (quotation s) (live (before-k c.before.before)) (row c.before.before) (sym c.in_hours.ensures ∙ not-true _ c.if-not-in_hours.true-raw)
+    let row : let s = start-k in Stands (book s).contracts.codes s.args.code c.in-At.k =
+        let h = start-k.requires.0 in
+    code-at (sound-kept h) (sound-holds h) _ _ (sym found.find-contract.ensures ∙ c.in-At.is) in
+    let s = start-k in
+    out-of-hours s.pre.0 (quotation s) (live before-k) row (sym c.in_hours.ensures ∙ not-true _ c.if-not-in_hours.true-raw)
 
 pub returns-then-time-h : goal.returns-then-time-h
 returns-then-time-h c =
-    let p = before-hours c.before.before in
+    let hours : in_hours (start-k before-hours).args.time ≡ true =
+        sym c.in_hours.ensures ∙ not-false _ c.if-not-in_hours.false-raw in
+    let p = before-hours in
     let s = start-k p in
     let e = ap (λ (x : Header). x.clock) (header (before-k p).before.before) in
-    too-early s.pre.0 (quotation s) (live (before-k p)) (row p) (hours c.before.before)
+    too-early s.pre.0 (quotation s) (live (before-k p)) (row p) hours
     (lt-leb (book s).today.clock s.args.time (omega (arith, e, c.if-time-h.true)))
 
 pub load_contract-x-requires : goal.load_contract-x-requires
@@ -139,7 +129,7 @@ load_contract-x-requires c =
 
 pub has_room-requires : goal.has_room-requires
 has_room-requires c =
-    let q = before-load c.before in
+    let q = before-load in
     let s = start-clock q in (
       (tally-sound s.pre.0 (quotation s) (row (before-hours (before-clock q))) c.load_contract-x.ensures).sides,
       s.pre.1.side,
@@ -147,42 +137,61 @@ has_room-requires c =
 
 pub returns-then-not-has_room : goal.returns-then-not-has_room
 returns-then-not-has_room c =
-    let q = before-load c.before.before.before in
+    let room : let s = start-clock before-load in
+    has_room ((book s).contracts.tally s.args.code) s.args.time s.args.side ≡ c.has_room.result =
+        let q = before-load in
+    let s = start-clock q in
+    sym (c.has_room.ensures
+    ∙ ap (λ (x : Contract). has_room x.tally s.args.time s.args.side)
+    (c.load_contract-x.ensures ∙ contract-in s.pre.0 (quotation s) (row (before-hours (before-clock q))))) in
+    let q = before-load in
     let p = before-hours (before-clock q) in
     let s = start-clock q in
-    full s.pre.0 (quotation s) (live (before-k p)) (row p) (hours (before-clock q)) (clock q) (room c.before ∙ not-true _ c.if-not-has_room.true-raw)
+    full s.pre.0 (quotation s) (live (before-k p)) (row p) (hours (before-clock q)) (clock q) (room ∙ not-true _ c.if-not-has_room.true-raw)
 
 pub with_quote-x-requires : goal.with_quote-x-requires
 with_quote-x-requires c =
-    let q = before-load c.before.before.before.before in
+    let q = before-load in
     let s = start-clock q in (
       tally-sound s.pre.0 (quotation s) (row (before-hours (before-clock q))) c.load_contract-x.ensures,
       passed (arg s.pre.1.rate tt),
     )
 
 pub store_header-requires : goal.store_header-requires
-store_header-requires c = (sound-long (start-clock (before-load c.before.before.before.before.before.before)).requires.0).counts
+store_header-requires c = (sound-long (start-clock before-load).requires.0).counts
 
 pub store_contract-requires : goal.store_contract-requires
 store_contract-requires c =
-    let q = before-load c.before.before.before.before.before.before.before.before.before.before.before in
+    let q = before-load in
     let s = start-clock q in
     let long = sound-long s.pre.0 in (
-      record { counts = c.store_header.auto.0 ∙ long.counts; money = long.money },
+      record { counts = c.store_header.auto.counts ∙ long.counts; money = long.money },
       row_small s.pre.0 (quotation s) (row (before-hours (before-clock q))),
     )
 
 pub returns : goal.returns
 returns c =
+    let room : let s = start-clock before-load in
+    has_room ((book s).contracts.tally s.args.code) s.args.time s.args.side ≡ c.has_room.result =
+        let q = before-load in
+    let s = start-clock q in
+    sym (c.has_room.ensures
+    ∙ ap (λ (x : Contract). has_room x.tally s.args.time s.args.side)
+    (c.load_contract-x.ensures ∙ contract-in s.pre.0 (quotation s) (row (before-hours (before-clock q))))) in
+    let row-after : with_tally c.load_contract-x.result c.with_quote-x.result ≡ quoted_row c.load_contract-x.result (quotation (start-clock before-load)) =
+        let s = start-clock before-load in
+    ap (with_tally c.load_contract-x.result)
+    (c.with_quote-x.ensures
+    ∙ ap (λ rate. with_quote c.load_contract-x.result.tally s.args.time s.args.side (weighted 1 rate)) (arg s.pre.1.rate tt).eq) in
     let stored = c.before.before.before in
     let headed = stored.before.before.before.before.before in
     let counted = headed.before.before in
-    let q = before-load c.before.before.before.before.before.before.before.before.before.before.before.before.before.before.before in
+    let q = before-load in
     let p = before-hours (before-clock q) in
     let s = start-clock q in
     let k = p.before.k.given.0.0 in
     done s.pre.0 (quotation s) (live (before-k p)) (row p) (hours (before-clock q)) (clock q)
-    (room c.before.before.before.before.before.before.before.before.before.before.before.before.before ∙ not-false _ c.if-not-has_room.false-raw)
+    (room ∙ not-false _ c.if-not-has_room.false-raw)
     (written s.pre.0 (quotation s) (row p) c.load_contract-x.ensures (before-k p).before.before.load-header.ensures
-    (c.store_contract.ensures.0 ∙ ap₂ (λ l x. with_contract_counts l k x) c.store_header.ensures (row-after c.before.before.before.before.before.before.before.before.before.before))
-    (c.store_contract.ensures.1 ∙ ap (with_contract_money s.args.money.now k) (row-after c.before.before.before.before.before.before.before.before.before.before)))
+    (c.store_contract.ensures.0 ∙ ap₂ (λ l x. with_contract_counts l k x) c.store_header.ensures row-after)
+    (c.store_contract.ensures.1 ∙ ap (with_contract_money s.args.money.now k) row-after))

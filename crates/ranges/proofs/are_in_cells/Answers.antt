@@ -19,26 +19,26 @@ loop-field-init c = refl
 pub returns-then-fields-field : goal.returns-then-fields-field
 returns-then-fields-field c =
     let a = c.args in
-    let n = get_or a.t2 c.loop-field.field 0 in
+    let n = get_or a.fields c.loop-field.field 0 in
     let under = subst (λ (r : Row). n < get_or r.least c.loop-field.field 0) c.row_of-row.ensures c.if-fields-field.true in
-    sym (c.loop-field.invariant ∙ every-stop (cell_within (fields_of a.kind)) a.t2 c.loop-field.field (omega arith) (under-row (fields_of a.kind) c.loop-field.field n (omega arith) under))
+    sym (c.loop-field.invariant ∙ every-stop (cell_within (fields_of a.kind)) a.fields c.loop-field.field (omega arith) (under-row (fields_of a.kind) c.loop-field.field n (omega arith) under))
 
 pub returns-then-row-field : goal.returns-then-row-field
 returns-then-row-field c =
     let a = c.args in
-    let n = get_or a.t2 c.loop-field.field 0 in
+    let n = get_or a.fields c.loop-field.field 0 in
     let over = subst (λ (r : Row). get_or r.greatest c.loop-field.field 0 < n) c.row_of-row.ensures c.if-row-field.true in
-    sym (c.loop-field.invariant ∙ every-stop (cell_within (fields_of a.kind)) a.t2 c.loop-field.field (omega arith) (over-row (fields_of a.kind) c.loop-field.field n (omega arith) over))
+    sym (c.loop-field.invariant ∙ every-stop (cell_within (fields_of a.kind)) a.fields c.loop-field.field (omega arith) (over-row (fields_of a.kind) c.loop-field.field n (omega arith) over))
 
 pub loop-field-preserved : goal.loop-field-preserved
 loop-field-preserved c =
     let a = c.args in
-    let n = get_or a.t2 c.loop-field.field 0 in
+    let n = get_or a.fields c.loop-field.field 0 in
     let from = subst (λ (r : Row). get_or r.least c.loop-field.field 0 ≤ n) c.row_of-row.ensures c.if-fields-field.false in
     let to = subst (λ (r : Row). n ≤ get_or r.greatest c.loop-field.field 0) c.row_of-row.ensures c.if-row-field.false in
-    c.loop-field.invariant ∙ every_more (cell_within (fields_of a.kind)) a.t2 c.loop-field.field (omega arith) (in_row (fields_of a.kind) c.loop-field.field n (omega arith) from to)
+    c.loop-field.invariant ∙ every_more (cell_within (fields_of a.kind)) a.fields c.loop-field.field (omega arith) (in_row (fields_of a.kind) c.loop-field.field n (omega arith) from to)
 
 pub returns : goal.returns
 returns c =
     let a = c.args in
-    sym (c.loop-field.invariant ∙ every-end (cell_within (fields_of a.kind)) a.t2 c.loop-field.field (omega arith))
+    sym (c.loop-field.invariant ∙ every-end (cell_within (fields_of a.kind)) a.fields c.loop-field.field (omega arith))

@@ -61,7 +61,7 @@ pub store_account-requires : goal.store_account-requires
 store_account-requires c = (long c.before.before.before.before.before, small c.before.before.before.before)
 
 pub overflow_add-i : goal.overflow_add-i
-overflow_add-i c = omega (arith, small c.before.before.before.before.before.before.before.before)
+overflow_add-i c = omega (arith, small c.before.before.before.before.before.before.before.before.before)
 
 pub loop-i-preserved : goal.loop-i-preserved
 loop-i-preserved c =
@@ -71,7 +71,7 @@ loop-i-preserved c =
     let l = c.loop-i in
     let s = t.before.before.before in (
       omega arith,
-      walk_step (rows_of (book s)) (rows-shaped (is-kept s)) (change (book s)) (refreshed-six _) l.i l.invariant.1 (small c.before.before.before.before.before.before.before.before)
+      walk_step (rows_of (book s)) (rows-shaped (is-kept s)) (change (book s)) (refreshed-six _) l.i l.invariant.1 (small c.before.before.before.before.before.before.before.before.before)
           (c.refresh_account-b.ensures ∙ ap₂ refreshed (rate s) c.load_account-a.ensures)
           c.store_account.ensures.0
           c.store_account.ensures.1,

@@ -56,13 +56,19 @@ loop-i-init c =
     )
 
 pub load_account-a-requires : goal.load_account-a-requires
-load_account-a-requires c = (long c.before, small c)
+load_account-a-requires c =
+    let long : Long c.loop-i.counts c.loop-i.money =
+        let s = c.before.before.before.before in
+    walk-long (rows_of (book s)) (rows-shaped (is-kept s)) settled_row settled-six c.loop-i.i c.loop-i.invariant.1 in
+    (long, small c)
 
 pub settled-s-requires : goal.settled-s-requires
 settled-s-requires c =
+    let below : c.loop-i.i < length (book c.before.before.before.before.before).accounts.members =
+        omega (arith, many c.before.before.before.before.before) in
     let l = c.loop-i in
     rw c.load_account-a.ensures
-    (turn-funds (is-kept c.before.before.before.before.before) settled_row settled-six l.i l.invariant.1 (below c.before.before))
+    (turn-funds (is-kept c.before.before.before.before.before) settled_row settled-six l.i l.invariant.1 below)
 
 -- the house after this turn
 module _ (c : After-struct_told-1) where
@@ -116,18 +122,32 @@ loop-i-preserved c =
 
 -- ---- the end
 pub store_house-requires : goal.store_house-requires
-store_house-requires c = (long c.before.before).money
+store_house-requires c =
+    let long : Long c.loop-i.counts c.loop-i.money =
+        let s = c.before.before.before.before in
+    walk-long (rows_of (book s)) (rows-shaped (is-kept s)) settled_row settled-six c.loop-i.i c.loop-i.invariant.1 in
+    long.money
 
 pub store_header-requires : goal.store_header-requires
-store_header-requires c = (long c.before.before.before.before.before).counts
+store_header-requires c =
+    let long : Long c.loop-i.counts c.loop-i.money =
+        let s = c.before.before.before.before in
+    walk-long (rows_of (book s)) (rows-shaped (is-kept s)) settled_row settled-six c.loop-i.i c.loop-i.invariant.1 in
+    long.counts
 
 pub shape_of-counts : goal.shape_of-counts
 shape_of-counts c =
-    c.store_header.auto.0 ∙ (long c.before.before.before.before.before.before.before.before).counts ∙ sym (sound-long c.requires.0).counts
+    let long : Long c.loop-i.counts c.loop-i.money =
+        let s = c.before.before.before.before in
+    walk-long (rows_of (book s)) (rows-shaped (is-kept s)) settled_row settled-six c.loop-i.i c.loop-i.invariant.1 in
+    c.store_header.auto.counts ∙ long.counts ∙ sym (sound-long c.requires.0).counts
 
 pub shape_of-money : goal.shape_of-money
 shape_of-money c =
-    c.store_house.auto.0 ∙ (long c.before.before.before.before.before.before.before.before).money
+    let long : Long c.loop-i.counts c.loop-i.money =
+        let s = c.before.before.before.before in
+    walk-long (rows_of (book s)) (rows-shaped (is-kept s)) settled_row settled-six c.loop-i.i c.loop-i.invariant.1 in
+    c.store_house.auto.money ∙ long.money
     ∙ sym (sound-long c.requires.0).money
 
 pub returns : goal.returns

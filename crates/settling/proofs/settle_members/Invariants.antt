@@ -25,7 +25,7 @@ use Rattle.settling.proofs.settle_members.Given as goal
 abbrev pub invariant-loop-i : goal.invariant-loop-i
 invariant-loop-i l =
     let b = view l.initial.counts l.initial.money in
-    (l.i ≤ l.members) × Holds l.counts l.money (walked (rows_of b) settled_row l.i) × (to_z w64 l.house ≡ house_after b l.i)
+    (l.i ≤ l.members) × Holds l.counts l.money (walked (rows_of b) settled_row l.i) × (l.house ≡ house_after b l.i)
 
 abbrev pub decreases-loop-i : goal.decreases-loop-i
 decreases-loop-i l = l.members - l.i

@@ -10,7 +10,6 @@ use Rattle.trail.specs.Tables.{Priced}
 use Rattle.trail.specs.PriceLaws.{priced-none, next-modest, priced-more, sum_fits}
 use Rattle.trail.proofs.price.Goals as goal
 use Rattle.trail.proofs.price.Goals.{After-money-1}
-use Rattle.trail.proofs.price.Invariants.{more, sum}
 
 pub loop-i-init : goal.loop-i-init
 loop-i-init c = let a = c.args in (priced-none a.code _ a.counts.now a.money.now, omega arith)
@@ -23,6 +22,29 @@ price_row-amount-requires c =
       (omega arith, omega (arith, l.invariant.0.long)),
       (rate, next-modest a.code _ a.counts.now a.money.now l.i l.invariant.0 c.requires.used_bound.0 rate c.requires.within.1 (omega arith)),
     )
+
+-- with one row more
+more : (c : After-money-1)
+    → let l = c.loop-i in
+    let a = c.args in
+    Priced a.counts.now a.money.now (l.i + 1) a.code (to_z w64 (of_z w64 a.rate))
+    (to_z w64 l.sum +ℤ to_z w64 (of_z w64 c.price_row-amount.result))
+    c.price_row-amount.new.1.0
+more c =
+    let l = c.loop-i in
+    let a = c.args in
+    let call = c.price_row-amount in
+    rw (told call.result call.type_inv, call.ensures.0, call.ensures.1)
+    (priced-more a.code _ a.counts.now a.money.now l.i l.invariant.0 (omega arith))
+
+sum : (c : After-money-1)
+    → Within 500000000000000 (to_z w64 c.loop-i.sum-bits +ℤ to_z w64 (of_z w64 c.price_row-amount.result))
+sum c =
+    let a = c.args in
+    sum_fits a.code _ a.counts.now a.money.now (c.loop-i.i + 1) (more c) c.requires.used_bound.0
+    (passed (arg c.requires.within.0 tt))
+    c.requires.within.1
+    (omega arith)
 
 pub overflow_add-sum : goal.overflow_add-sum
 overflow_add-sum c = fits64 (sum c) tt

@@ -12,30 +12,7 @@ use Rattle.trail.proofs.price.Given as goal
 
 -- the rows that the loop has passed are priced
 abbrev pub invariant-loop-i : goal.invariant-loop-i
-invariant-loop-i l = Priced l.counts l.initial.money l.i l.code (to_z w64 l.rate) (to_z w64 l.sum) l.money × (l.i ≤ l.used)
+invariant-loop-i l = Priced l.counts l.initial.money l.i l.code (l.rate) (l.sum) l.money × (l.i ≤ l.used)
 
 abbrev pub decreases-loop-i : goal.decreases-loop-i
 decreases-loop-i l = l.used - l.i
-
--- with one row more
-more : (c : After-money-1)
-    → let l = c.loop-i in
-    let a = c.args in
-    Priced a.counts.now a.money.now (l.i + 1) a.code (to_z w64 (of_z w64 a.rate))
-    (to_z w64 l.sum +ℤ to_z w64 (of_z w64 c.price_row-amount.result))
-    c.price_row-amount.new.1.0
-more c =
-    let l = c.loop-i in
-    let a = c.args in
-    let call = c.price_row-amount in
-    rw (told call.result call.type_inv, call.ensures.0, call.ensures.1)
-    (priced-more a.code _ a.counts.now a.money.now l.i l.invariant.0 (omega arith))
-
-sum : (c : After-money-1)
-    → Within 500000000000000 (to_z w64 c.loop-i.sum-bits +ℤ to_z w64 (of_z w64 c.price_row-amount.result))
-sum c =
-    let a = c.args in
-    sum_fits a.code _ a.counts.now a.money.now (c.loop-i.i + 1) (more c) c.requires.used_bound.0
-    (passed (arg c.requires.within.0 tt))
-    c.requires.within.1
-    (omega arith)

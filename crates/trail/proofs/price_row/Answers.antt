@@ -20,7 +20,9 @@ modest c = subst Modest (sym c.load_row-row.ensures) c.requires.within.1
 
 pub worth-amount-requires : goal.worth-amount-requires
 worth-amount-requires c =
-    (pass (modest c.before.before.before.before).lots tt tt, (pass (modest c.before.before.before.before).rate tt tt, pass c.requires.within.0 tt tt))
+    let modest : Modest c.load_row-row.result =
+        subst Modest (sym c.load_row-row.ensures) c.requires.within.1 in
+    (pass modest.lots tt tt, (pass modest.rate tt tt, pass c.requires.within.0 tt tt))
 
 -- what the call answers is what the row's trade earns
 amount : (c : After-worth-amount)
@@ -30,7 +32,7 @@ amount c =
     let load = c.before.before.before.before.before in
     told c.worth-amount.result c.worth-amount.type_inv
     ∙ c.worth-amount.ensures
-    ∙ rw ((arg c.requires.within.0 tt).eq, (arg (modest c.before.before.before.before.before).lots tt).eq, (arg (modest c.before.before.before.before.before).rate tt).eq)
+    ∙ rw ((arg c.requires.within.0 tt).eq, (arg modest.lots tt).eq, (arg modest.rate tt).eq)
     (ap (worth c.args.rate) c.load_row-row.ensures)
 
 pub returns-then-code-row : goal.returns-then-code-row

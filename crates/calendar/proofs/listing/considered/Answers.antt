@@ -8,22 +8,19 @@ use Rattle.calendar.specs.Choosing.{has_place, considered}
 use Rattle.calendar.specs.ChoosingLaws.{place-left}
 use borrow.Author.Rules.{rules}
 use Rattle.calendar.proofs.listing.considered.Goals as goal
-use Rattle.calendar.proofs.listing.considered.Goals.{After-has_place, Else-not-is_after}
 
 pub returns-then-not-is_after : goal.returns-then-not-is_after
 unfolding considered
 returns-then-not-is_after c = rw (sym c.is_after.ensures ∙ not-true _ c.if-not-is_after.true-raw)
 
-later : (c : Else-not-is_after) → is_after c.args.t c.args.day ≡ true
-later c = sym c.is_after.ensures ∙ not-false _ c.if-not-is_after.false-raw
-
--- whether the month's kind has a place
-place : (c : After-has_place) → c.has_place.result ≡ has_place c.args.c (is_quarterly c.args.month.number)
-place c = c.has_place.ensures ∙ ap (has_place _) c.is_quarterly-quarterly.ensures
-
 pub returns-then-not-has_place : goal.returns-then-not-has_place
 unfolding considered
-returns-then-not-has_place c = rw (later c.before.before.before, sym (place c.before) ∙ not-true _ c.if-not-has_place.true-raw)
+returns-then-not-has_place c =
+    let later : is_after c.args.t c.args.day ≡ true =
+        sym c.is_after.ensures ∙ not-false _ c.if-not-is_after.false-raw in
+    let place : c.has_place.result ≡ has_place c.args.c (is_quarterly c.args.month.number) =
+        c.has_place.ensures ∙ ap (has_place c.args.c) c.is_quarterly-quarterly.ensures in
+    rw (later, sym place ∙ not-true _ c.if-not-has_place.true-raw)
 
 pub placed-requires : goal.placed-requires
 placed-requires c =
@@ -33,4 +30,8 @@ placed-requires c =
 pub returns : goal.returns
 unfolding considered
 returns c =
-    rw (later c.before.before.before.before.before.before, sym (place c.before.before.before.before) ∙ not-false _ c.if-not-has_place.false-raw, ← c.is_quarterly-quarterly.ensures, ← c.code.ensures, ← c.is_day.ensures) c.placed.ensures
+    let later : is_after c.args.t c.args.day ≡ true =
+        sym c.is_after.ensures ∙ not-false _ c.if-not-is_after.false-raw in
+    let place : c.has_place.result ≡ has_place c.args.c (is_quarterly c.args.month.number) =
+        c.has_place.ensures ∙ ap (has_place c.args.c) c.is_quarterly-quarterly.ensures in
+    rw (later, sym place ∙ not-false _ c.if-not-has_place.false-raw, ← c.is_quarterly-quarterly.ensures, ← c.code.ensures, ← c.is_day.ensures) c.placed.ensures

@@ -7,7 +7,6 @@ use Rattle.calendar.specs.ChoosingLaws.{chosen_none, chosen-next, chosen-most, f
 use native.Mathlib.Omega.{arith}
 use borrow.Author.Rules.{rules}
 use Rattle.calendar.proofs.listing.listed_on.Goals as goal
-use Rattle.calendar.proofs.listing.listed_on.Goals.{After-considered-chosen}
 
 pub loop-number-init : goal.loop-number-init
 loop-number-init c =
@@ -17,22 +16,27 @@ loop-number-init c =
 pub considered-chosen-requires : goal.considered-chosen-requires
 considered-chosen-requires c = rw c.loop-number.invariant.1.0 (chosen-most _ _ _)
 
--- what is chosen once the month is considered
-next-is : (c : After-considered-chosen) → c.considered-chosen.result ≡ chosen_before (is_working c.args.exceptions.now) c.args.t (c.loop-number.number + 1)
-next-is c =
-    let l = c.loop-number in
-    c.considered-chosen.ensures ∙ rw (l.invariant.1.0, c.settlement_day.ensures) (chosen-next _ _ _ l.invariant.0.0)
-
 pub overflow_add-chosen : goal.overflow_add-chosen
-overflow_add-chosen c = rw (next-is c.before) (omega (arith, chosen-most (is_working c.args.exceptions.now) c.args.t (c.loop-number.number + 1)))
+overflow_add-chosen c =
+    let next-is : c.considered-chosen.result ≡ chosen_before (is_working c.args.exceptions.now) c.args.t (c.loop-number.number + 1) =
+        let l = c.loop-number in
+    c.considered-chosen.ensures ∙ rw (l.invariant.1.0, c.settlement_day.ensures) (chosen-next _ _ _ l.invariant.0.0) in
+    rw next-is (omega (arith, chosen-most (is_working c.args.exceptions.now) c.args.t (c.loop-number.number + 1)))
 
 pub returns-then-chosen-eq6 : goal.returns-then-chosen-eq6
 returns-then-chosen-eq6 c =
-    let next = next-is c.before.before.before in
+    let next-is : c.considered-chosen.result ≡ chosen_before (is_working c.args.exceptions.now) c.args.t (c.loop-number.number + 1) =
+        let l = c.loop-number in
+    c.considered-chosen.ensures ∙ rw (l.invariant.1.0, c.settlement_day.ensures) (chosen-next _ _ _ l.invariant.0.0) in
+    let next = next-is in
     c.answered.ensures ∙ ap answered next ∙ full-listing _ _ _ (omega arith) (rw next at c.if-chosen-eq6.true)
 
 pub loop-number-preserved : goal.loop-number-preserved
-loop-number-preserved c = ((omega arith, omega arith), (next-is c.before.before, c.if-chosen-eq6.false))
+loop-number-preserved c =
+    let next-is : c.considered-chosen.result ≡ chosen_before (is_working c.args.exceptions.now) c.args.t (c.loop-number.number + 1) =
+        let l = c.loop-number in
+    c.considered-chosen.ensures ∙ rw (l.invariant.1.0, c.settlement_day.ensures) (chosen-next _ _ _ l.invariant.0.0) in
+    ((omega arith, omega arith), (next-is, c.if-chosen-eq6.false))
 
 pub returns : goal.returns
 returns c =

@@ -10,13 +10,18 @@ use Rattle.standing.specs.Turns.{Whole, Turns}
 use Rattle.day_end.specs.TurnLaws.{closed-six}
 use Rattle.day_end.proofs.bookings.close_accounts.Goals as goal
 use Rattle.day_end.proofs.bookings.close_accounts.Goals.{After-load_header-h, At-loop-i, In-loop-i}
-use Rattle.day_end.proofs.bookings.close_accounts.Invariants.{members}
 
 long : (c : At-loop-i) → Long c.loop-i.counts c.loop-i.money
 long c =
     let p = c.requires in
     let w = c.loop-i.invariant.1 p.rows p.whole in
     memory-long _ w.shaped w.holds
+
+-- the members are those of the rows
+members : (c : After-load_header-h) → c.load_header-h.result.members ≡ c.requires.rows.header.members
+members c =
+    let p = c.requires in
+    ap (λ (h : Header). h.members) (c.load_header-h.ensures ∙ header_is p.rows p.whole.shaped p.whole.holds)
 
 inside : (c : In-loop-i) → c.loop-i.i < 64
 inside c =
@@ -59,7 +64,7 @@ loop-i-preserved c =
     let did = c.closed_row-x.ensures ∙ ap (closed_row c.args.ended c.args.d) c.load_account-a.ensures in
     let six = closed-six c.args.ended c.args.d c.requires.known.end in
     let put = c.store_account.ensures in
-    (omega arith, walks_more _ _ _ l.i six l.invariant.1 (inside c.before.before.before.before.before.before.before.before) did put.0 put.1)
+    (omega arith, walks_more _ _ _ l.i six l.invariant.1 (inside c.before.before.before.before.before.before.before.before.before) did put.0 put.1)
 
 pub shape_of-counts : goal.shape_of-counts
 shape_of-counts c =

@@ -16,9 +16,3 @@ invariant-loop-i l =
 
 abbrev pub decreases-loop-i : goal.decreases-loop-i
 decreases-loop-i l = l.members - l.i
-
--- the members are those of the rows
-members : (c : After-load_header-h) → c.load_header-h.result.members ≡ c.requires.rows.header.members
-members c =
-    let p = c.requires in
-    ap (λ (h : Header). h.members) (c.load_header-h.ensures ∙ header_is p.rows p.whole.shaped p.whole.holds)

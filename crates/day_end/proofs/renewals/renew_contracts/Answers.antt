@@ -28,8 +28,8 @@ loop-k-preserved c =
     let l = c.loop-k in
     let ended = c.args.ended in
     let long : Long _ _ = record {
-      counts = c.store_contract.auto.0 ∙ l.invariant.1.0.counts;
-      money = c.store_contract.auto.1.0 ∙ l.invariant.1.0.money;
+      counts = c.store_contract.auto.counts ∙ l.invariant.1.0.counts;
+      money = c.store_contract.auto.money.0 ∙ l.invariant.1.0.money;
     } in (
       omega arith,
       (

@@ -56,55 +56,55 @@ Of b m s = Holds s.args.counts.now m (rows_of b)
 module _ {b : Book} {m : List ℤ} (g : Kept b) where
   header : (s : Start) → Of b m s → s.args.h ≡ header_row b
   header s h = s.requires.header ∙ header_is (rows_of b) (rows-shaped g) h
-  open_is : (c : After-is_open) → Of b m (start c.before.before.before.before.before.before.before.before.before.before.before.before.before.before.before) → is_open b.today.point ≡ c.is_open.result
-  open_is c h = sym (c.is_open.ensures ∙ ap (λ (x : Header). eqb x.point 2 || eqb x.point 3) (header (start c.before.before.before.before.before.before.before.before.before.before.before.before.before.before.before) h))
-  live : (c : Else-not-is_open) → Of b m (start c.before.before.before.before.before.before.before.before.before.before.before.before.before.before.before) → is_open b.today.point ≡ true
+  open_is : (c : After-is_open) → Of b m start → is_open b.today.point ≡ c.is_open.result
+  open_is c h = sym (c.is_open.ensures ∙ ap (λ (x : Header). eqb x.point 2 || eqb x.point 3) (header start h))
+  live : (c : Else-not-is_open) → Of b m start → is_open b.today.point ≡ true
   live c h = open_is c.before h ∙ not-false _ c.if-not-is_open.false-raw
-  row-k : (c : In-At) → Of b m (start-k c.before.before.before.before.before.before.before.before.before.before) → Stands b.contracts.codes (deal (start-k c.before.before.before.before.before.before.before.before.before.before)).code c.in-At.k
+  row-k : (c : In-At) → Of b m start-k → Stands b.contracts.codes (deal start-k).code c.in-At.k
   row-k c h = code-at g h _ _ (sym c.find_contract.ensures ∙ c.in-At.is)
-  row-i : (c : In-At-find_account) → Of b m (start-i c.before.before.before.before.before.before) → Stands b.accounts.members (deal (start-i c.before.before.before.before.before.before)).buyer c.in-At-find_account.i
+  row-i : (c : In-At-find_account) → Of b m start-i → Stands b.accounts.members (deal start-i).buyer c.in-At-find_account.i
   row-i c h = number-at g h _ _ (sym c.find_account.ensures ∙ c.in-At-find_account.is)
-  row-j : (c : In-At-find_account-2) → Of b m (start-j c.before.before) → Stands b.accounts.members (deal (start-j c.before.before)).seller c.in-At-find_account-2.j
+  row-j : (c : In-At-find_account-2) → Of b m start-j → Stands b.accounts.members (deal start-j).seller c.in-At-find_account-2.j
   row-j c h = number-at g h _ _ (sym c.find_account-2.ensures ∙ c.in-At-find_account-2.is)
-  between : (c : Else-t) → let p = c.before.before in Of b m (start-j c.before.before)
-      → Between b (deal (start-j c.before.before)) (before-i (before-j c.before.before)).before.k.given.0.0 (before-j c.before.before).before.i.given.0.0 c.in-At-find_account-2.j
+  between : (c : Else-t) → let p = c.before.before in Of b m start-j
+      → Between b (deal start-j) (before-i before-j).before.k.given.0.0 before-j.before.i.given.0.0 c.in-At-find_account-2.j
   between c h = let p = c.before.before in record {
-    live = live (before-k (before-i (before-j c.before.before))) h;
-    contract = row-k (before-i (before-j c.before.before)) h;
-    buyer = row-i (before-j c.before.before) h;
+    live = live (before-k (before-i before-j)) h;
+    contract = row-k (before-i before-j) h;
+    buyer = row-i before-j h;
     seller = row-j p h;
     apart = ne_eqb _ _ c.if-t.false;
   }
 
 pub returns-then-not-is_open : goal.returns-then-not-is_open
-returns-then-not-is_open c = λ b m g h. shut b (deal (start c.before)) (open_is g c.before h ∙ not-true _ c.if-not-is_open.true-raw)
+returns-then-not-is_open c = λ b m g h. shut b (deal start) (open_is g c.before h ∙ not-true _ c.if-not-is_open.true-raw)
 
 pub returns-in_default : goal.returns-in_default
 returns-in_default c = λ b m g h.
-    let t = deal (start c.before.before.before.before) in
+    let t = deal start in
     unlisted b t (live g c.before h) (code-none g h t.code (sym c.find_contract.ensures ∙ c.in_default.is))
 
 pub returns-in_default-find_account : goal.returns-in_default-find_account
 returns-in_default-find_account c = λ b m g h.
     let found = c.before.before in
     let p = found.before in
-    let t = deal (start-k c.before.before.before) in
-    no-buyer b t (live g (before-k c.before.before.before) h) (has_here (row-k g p h))
+    let t = deal start-k in
+    no-buyer b t (live g before-k h) (has_here (row-k g p h))
     (member-none g h t.buyer (sym c.find_account.ensures ∙ c.in_default-find_account.is))
 
 pub returns-in_default-find_account-2 : goal.returns-in_default-find_account-2
 returns-in_default-find_account-2 c = λ b m g h.
     let found = c.before.before in
     let p = found.before in
-    let t = deal (start-i c.before.before.before) in
-    no-seller b t (live g (before-k (before-i c.before.before.before)) h) (has_here (row-k g (before-i c.before.before.before) h)) (has_here (row-i g p h))
+    let t = deal start-i in
+    no-seller b t (live g (before-k before-i) h) (has_here (row-k g before-i h)) (has_here (row-i g p h))
     (member-none g h t.seller (sym c.find_account-2.ensures ∙ c.in_default-find_account-2.is))
 
 pub returns-then-t : goal.returns-then-t
 returns-then-t c = λ b m g h.
     let p = c.before.before in
-    let q = before-j c.before.before in
-    one-party b (deal (start-j c.before.before)) (live g (before-k (before-i q)) h) (has_here (row-k g (before-i q) h)) (has_here (row-i g q h))
+    let q = before-j in
+    one-party b (deal start-j) (live g (before-k (before-i q)) h) (has_here (row-k g (before-i q) h)) (has_here (row-i g q h))
     (has_here (row-j g p h)) (eq-eqb _ _ c.if-t.true)
 
 -- ---- the hours, the clock and the number of trades
@@ -129,12 +129,15 @@ module _ {b : Book} {m : List ℤ} (g : Kept b) where
 pub returns-then-not-in_hours : goal.returns-then-not-in_hours
 returns-then-not-in_hours c = λ b m g h.
     let p = c.before.before in
-    out-of-hours b (deal (start-j c.before.before.before.before)) (between g p h) (sym c.in_hours.ensures ∙ not-true _ c.if-not-in_hours.true-raw)
+    out-of-hours b (deal start-j) (between g p h) (sym c.in_hours.ensures ∙ not-true _ c.if-not-in_hours.true-raw)
 
 pub returns-then-t-h : goal.returns-then-t-h
-returns-then-t-h c = λ b m g h.
-    let e = ap (λ (x : Header). x.clock) (header g (start-j (apart c.before.before.before).before.before) h) in
-    too-early b (deal-of c.before.before.before) (between g (apart c.before.before.before) h) (hours c.before.before.before) (lt-leb b.today.clock (deal-of c.before.before.before).time (omega (arith, e, c.if-t-h.true)))
+returns-then-t-h c =
+    let hours : in_hours deal-of.time ≡ true =
+        sym c.in_hours.ensures ∙ not-false _ c.if-not-in_hours.false-raw in
+    λ b m g h.
+    let e = ap (λ (x : Header). x.clock) (header g (start-j apart.before.before) h) in
+    too-early b deal-of (between g apart h) hours (lt-leb b.today.clock deal-of.time (omega (arith, e, c.if-t-h.true)))
 
 pub returns-then-h-ge10000 : goal.returns-then-h-ge10000
 returns-then-h-ge10000 c = λ b m g h.

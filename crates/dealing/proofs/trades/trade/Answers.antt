@@ -30,7 +30,7 @@ trade_between-requires c =
       sound = h;
       header = c.load_header-h.ensures ∙ sound-header h;
       range = c.requires.1;
-      ready = rw c.in-Found.is at (c.parties_of.ensures (book c.before.before.before.before.before.before.before.before) c.args.money.now (sound-kept h) (sound-holds h));
+      ready = rw c.in-Found.is at (c.parties_of.ensures (book c.before.before.before.before.before.before) c.args.money.now (sound-kept h) (sound-holds h));
     }
 
 pub returns-in-Refused : goal.returns-in-Refused
@@ -38,4 +38,4 @@ returns-in-Refused c =
     let found = c.before.before.before in
     let h = c.requires.0 in
     refused-traded h
-    (rw c.in-Refused.is at (c.parties_of.ensures (book c.before.before.before.before.before.before) c.args.money.now (sound-kept h) (sound-holds h)))
+    (rw c.in-Refused.is at (c.parties_of.ensures (book c.before.before.before.before.before) c.args.money.now (sound-kept h) (sound-holds h)))

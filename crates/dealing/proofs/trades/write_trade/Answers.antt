@@ -38,9 +38,9 @@ pub returns : goal.returns
 returns c =
     let stored = c.before.before.before in
     let headed = stored.before.before.before.before.before in
-    let s = start c.before.before.before.before.before.before.before.before.before.before.before in
+    let s = start c.before.before.before.before.before.before.before.before.before.before.before.before in
     record {
       counts = c.store_contract.ensures.0
-          ∙ ap₂ (λ l x. with_contract_counts l s.args.k x) c.store_header.ensures (row_is c.before.before.before.before.before.before.before.before.before.before.before);
-      money = c.store_contract.ensures.1 ∙ ap (with_contract_money s.args.money.now s.args.k) (row_is c.before.before.before.before.before.before.before.before.before.before.before);
+          ∙ ap₂ (λ l x. with_contract_counts l s.args.k x) c.store_header.ensures (row_is c.before.before.before.before.before.before.before.before.before.before.before.before);
+      money = c.store_contract.ensures.1 ∙ ap (with_contract_money s.args.money.now s.args.k) (row_is c.before.before.before.before.before.before.before.before.before.before.before.before);
     }

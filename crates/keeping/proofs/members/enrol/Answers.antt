@@ -29,22 +29,22 @@ returns-in_default c =
 
 pub returns-then-n-ge64 : goal.returns-then-n-ge64
 returns-then-n-ge64 c =
-    let s = start c.before.before.before in
+    let s = start c.before.before in
     enrol-full s.pre.0 s.args.number s.args.limits c.load_header-h.ensures
     c.if-h-eq0.false c.find_account.ensures c.in-Nothing.is c.if-n-ge64.true
 
 pub new_account-a-requires : goal.new_account-a-requires
 new_account-a-requires c =
-    let s = start c.before.before.before in
+    let s = start c.before.before in
     (s.pre.1, enrol-reference s.pre.0 s.args.number s.args.limits c.load_header-h.ensures)
 
 pub store_header-requires : goal.store_header-requires
-store_header-requires c = (sound-long (start c.before.before.before.before.before).requires.0).counts
+store_header-requires c = (sound-long (start c.before.before.before.before).requires.0).counts
 
 pub store_account-requires : goal.store_account-requires
 store_account-requires c =
     let head = c.before.before.before.before in
-    let s = start c.before.before.before.before.before.before.before.before.before.before in
+    let s = start c.before.before.before.before.before.before.before.before.before in
     (subst (λ l. Long l s.args.money.now) (sym c.store_header.ensures) (headed-long s.pre.0 _), c.if-n-ge64.false)
 
 pub returns : goal.returns

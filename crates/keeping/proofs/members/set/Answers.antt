@@ -42,16 +42,16 @@ place_of-requires c =
     ((sound-long s).counts, sound-members s)
 
 pub load_account-a-requires : goal.load_account-a-requires
-load_account-a-requires c = row-there c.before.before.before c.in-Row.is
+load_account-a-requires c = row-there c.before.before c.in-Row.is
 
 pub store_account-requires : goal.store_account-requires
 store_account-requires c =
-    row-there c.before.before.before.before.before.before.before.before c.in-Row.is
+    row-there c.before.before.before.before.before.before c.in-Row.is
 
 pub returns-in-Refused : goal.returns-in-Refused
 returns-in-Refused c =
-    let a = (start c.before.before.before).args in
-    change-refused (start c.before.before.before).requires a.number a.change (found c.before.before.before) c.in-Refused.is
+    let a = (start c.before.before).args in
+    change-refused (start c.before.before).requires a.number a.change (found c.before.before) c.in-Refused.is
 
 pub returns-in-Row : goal.returns-in-Row
 returns-in-Row c =
@@ -59,8 +59,8 @@ returns-in-Row c =
     let change = done.before.before.before in
     let load = change.before.before in
     let row = load.before.before.before.before in
-    let a = (start c.before.before.before.before.before.before.before.before.before.before.before.before).args in
-    changed-made (start c.before.before.before.before.before.before.before.before.before.before.before.before).requires a.number a.change (found c.before.before.before.before.before.before.before.before.before.before.before.before) c.in-Row.is
+    let a = (start c.before.before.before.before.before.before.before.before.before.before.before).args in
+    changed-made (start c.before.before.before.before.before.before.before.before.before.before.before).requires a.number a.change (found c.before.before.before.before.before.before.before.before.before.before.before) c.in-Row.is
     c.load_account-a.ensures
     (ap (with_holdings c.load_account-a.result) c.changed-a.ensures)
     c.store_account.ensures.0

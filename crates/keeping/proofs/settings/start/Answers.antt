@@ -16,12 +16,12 @@ load_header-h-requires c = (sound-long c.requires.0).counts
 
 pub returns-then-h-gt0 : goal.returns-then-h-gt0
 returns-then-h-gt0 c =
-    start-late c.requires.0 (settings c.before.before.before.before.before) c.load_header-h.ensures c.if-h-gt0.true
+    start-late c.requires.0 (settings c.before.before.before.before.before.before) c.load_header-h.ensures c.if-h-gt0.true
 
 pub returns-then-not-is_accepted : goal.returns-then-not-is_accepted
 returns-then-not-is_accepted c =
     let late = c.before.before in
-    start-unaccepted c.requires.0 (settings c.before.before.before.before.before.before.before) c.load_header-h.ensures c.if-h-gt0.false
+    start-unaccepted c.requires.0 (settings c.before.before.before.before.before.before.before.before) c.load_header-h.ensures c.if-h-gt0.false
     c.is_accepted.ensures (not-true _ c.if-not-is_accepted.true-raw)
 
 pub store_header-requires : goal.store_header-requires
@@ -38,7 +38,7 @@ returns c =
     let head = done.before.before.before.before in
     let yes' = head.before.before in
     let late = yes'.before.before in
-    started-made c.requires.0 (settings c.before.before.before.before.before.before.before.before.before.before.before.before.before.before.before) c.load_header-h.ensures c.if-h-gt0.false
+    started-made c.requires.0 (settings c.before.before.before.before.before.before.before.before.before.before.before.before.before.before.before.before) c.load_header-h.ensures c.if-h-gt0.false
     c.is_accepted.ensures
     c.requires.1.1
     (not-false _ c.if-not-is_accepted.false-raw)

@@ -29,7 +29,9 @@ pub offset_bounds-counts-first : goal.offset_bounds-counts-first
 offset_bounds-counts-first c = omega (arith, inside c)
 
 pub bounds-counts-first : goal.bounds-counts-first
-bounds-counts-first c = inside c.before
+bounds-counts-first c =
+    let a = c.args in
+    omega (arith, mul-le-mul_right {m = c.loop-i.i + 1} {n = a.rows} a.width (omega arith))
 
 pub returns-then-counts-first : goal.returns-then-counts-first
 returns-then-counts-first c = sym (c.loop-i.invariant ∙ seek_hit _ _ _ _ c.loop-i-test.true c.if-counts-first.true)

@@ -14,7 +14,7 @@ pub relist_members-requires : goal.relist_members-requires
 relist_members-requires c =
     let t = c.before.before.before.before.before in
     let h = t.before.before.before.before.before.before.before.before in
-    (still-long c.requires.0 c.store_rows.auto.0 c.store_rows.auto.1.0, rw c.load_header-h.ensures c.requires.1.1)
+    (still-long c.requires.0 c.store_rows.auto.counts c.store_rows.auto.money.0, rw c.load_header-h.ensures c.requires.1.1)
 
 pub returns : goal.returns
 returns c =

@@ -37,7 +37,7 @@ loop-i-preserved c =
     let put = c.store_account in (
       omega arith,
       (
-        still-long c.loop-i.invariant.1.0 put.auto.0 put.auto.1.0,
+        still-long c.loop-i.invariant.1.0 put.auto.counts put.auto.money.0,
         walks_more _ _ _ c.loop-i.i (λ b h. tab-length _ 6) c.loop-i.invariant.1.1 (omega (arith, c.requires.1)) did put.ensures.0 put.ensures.1,
       ),
     )

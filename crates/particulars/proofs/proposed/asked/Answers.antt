@@ -43,61 +43,71 @@ deal s = trade_of s.args.t
 open_at : (c : After-is_open) → is_open (book (start c)).today.point ≡ c.is_open.result
 open_at c = open_is (start c).requires.0 c.load_header-h.ensures c.is_open.ensures
 
-live : (c : Else-not-is_open) → is_open (book (start c.before)).today.point ≡ true
-live c = open_at c.before ∙ not-false _ c.if-not-is_open.false-raw
+live : (c : Else-not-is_open) → is_open (book start).today.point ≡ true
+live c = open_at ∙ not-false _ c.if-not-is_open.false-raw
 
 contract : (c : In-At-2) → let s = start-k c in Stands (book s).contracts.codes (deal s).code c.in-At.k
 contract c =
     let h = (start-k c).requires.0 in
     code-at (sound-kept h) (sound-holds h) _ _ (sym c.find_contract.ensures ∙ c.in-At.is)
 
-side : (c : In-At-find_account-2) → let s = start-i c in Stands (book s).accounts.members s.args.number c.in-At-find_account.i
-side c =
-    let h = (start-i c).requires.0 in
-    number-at (sound-kept h) (sound-holds h) _ _ (sym c.find_account.ensures ∙ c.in-At-find_account.is)
-
 pub load_header-h-requires : goal.load_header-h-requires
 load_header-h-requires c = (sound-long c.requires.0).counts
 
 pub returns-then-not-is_open : goal.returns-then-not-is_open
 returns-then-not-is_open c =
-    let s = start c.before in
-    asked-shut (book s) (deal s) s.args.number (open_at c.before ∙ not-true _ c.if-not-is_open.true-raw)
+    let open_at : is_open (book start).today.point ≡ c.is_open.result =
+        open_is start.requires.0 c.load_header-h.ensures c.is_open.ensures in
+    let s = start in
+    asked-shut (book s) (deal s) s.args.number (open_at ∙ not-true _ c.if-not-is_open.true-raw)
 
 pub find_contract-requires : goal.find_contract-requires
-find_contract-requires c = let h = (start c.before).requires.0 in ((sound-long h).counts, sound-listed h)
+find_contract-requires c = let h = start.requires.0 in ((sound-long h).counts, sound-listed h)
 
 pub returns-in_default : goal.returns-in_default
 returns-in_default c =
-    let s = start c.before.before.before.before in
+    let open_at : is_open (book start).today.point ≡ c.is_open.result =
+        open_is start.requires.0 c.load_header-h.ensures c.is_open.ensures in
+    let live : is_open (book start).today.point ≡ true =
+        open_at ∙ not-false _ c.if-not-is_open.false-raw in
+    let s = start in
     let h = s.pre.0 in
-    asked-unlisted (book s) (deal s) s.args.number (live c.before.before.before)
+    asked-unlisted (book s) (deal s) s.args.number live
     (code-none (sound-kept h) (sound-holds h) (deal s).code (sym c.find_contract.ensures ∙ c.in_default.is))
 
 pub find_account-requires : goal.find_account-requires
-find_account-requires c = let h = (start-k c.before).requires.0 in ((sound-long h).counts, sound-members h)
+find_account-requires c = let h = start-k.requires.0 in ((sound-long h).counts, sound-members h)
 
 pub returns-in_default-find_account : goal.returns-in_default-find_account
 returns-in_default-find_account c =
+    let contract : let s = start-k in Stands (book s).contracts.codes (deal s).code c.in-At.k =
+        let h = start-k.requires.0 in
+    code-at (sound-kept h) (sound-holds h) _ _ (sym c.find_contract.ensures ∙ c.in-At.is) in
     let found = c.before.before in
-    let s = start-k c.before.before.before.before in
+    let s = start-k in
     let h = s.pre.0 in
-    asked-unknown (book s) (deal s) s.args.number (live (before-k c.before.before.before.before)) (has_here (contract c.before.before.before.before))
+    asked-unknown (book s) (deal s) s.args.number (live before-k) (has_here contract)
     (member-none (sound-kept h) (sound-holds h) s.args.number (sym c.find_account.ensures ∙ c.in_default-find_account.is))
 
 pub side_totals-requires : goal.side_totals-requires
 side_totals-requires c =
-    let s = start-i c.before in record {
+    let side : let s = start-i in Stands (book s).accounts.members s.args.number c.in-At-find_account.i =
+        let h = start-i.requires.0 in
+    number-at (sound-kept h) (sound-holds h) _ _ (sym c.find_account.ensures ∙ c.in-At-find_account.is) in
+    let s = start-i in record {
       sound = s.pre.0;
-      live = live (before-k (before-i c.before));
-      contract = contract (before-i c.before);
-      side = side c.before;
+      live = live (before-k before-i);
+      contract = contract before-i;
+      side = side;
       range = s.pre.1.0;
       party = s.pre.1.1;
     }
 
 pub returns : goal.returns
 returns c =
-    let k = before-i c.before.before in
-    let s = start-i c.before.before in
-    asked-totals (book s) (deal s) s.args.number (live (before-k k)) (has_here (contract k)) (has_here (side c.before.before)) c.side_totals.ensures
+    let side : let s = start-i in Stands (book s).accounts.members s.args.number c.in-At-find_account.i =
+        let h = start-i.requires.0 in
+    number-at (sound-kept h) (sound-holds h) _ _ (sym c.find_account.ensures ∙ c.in-At-find_account.is) in
+    let k = before-i in
+    let s = start-i in
+    asked-totals (book s) (deal s) s.args.number (live (before-k k)) (has_here (contract k)) (has_here side) c.side_totals.ensures
