@@ -25,7 +25,7 @@ returns-then-not-has_place c =
 pub placed-requires : goal.placed-requires
 placed-requires c =
     let bounds = c.requires in
-    place-left _ c.is_quarterly-quarterly.result bounds.0 bounds.1 (sym c.has_place.ensures ∙ not-false _ c.if-not-has_place.false-raw)
+    place-left c.args.c c.is_quarterly-quarterly.result bounds.0 bounds.1 (sym c.has_place.ensures ∙ not-false _ c.if-not-has_place.false-raw)
 
 pub returns : goal.returns
 unfolding considered
