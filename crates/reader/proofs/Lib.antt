@@ -1,2 +1,0 @@
-pub mod Answered
-pub mod Apart
