@@ -28,11 +28,17 @@ class Names:
         self.new_place = {}
         self.callees = {}
         self.typed = {norm(p[0]): bool(t) for p, t in zip(v["places"], v["typed"])}
-        self.bits = any(b.endswith("-bits") for p in v["places"] for _, b in p[4])
+        self.bits = {a for p in v["places"] for a, b in p[4] if b.endswith("-bits")}
         for p, n, a in zip(v["places"], v["places_by_name"], v["arms"]):
             self.callees[norm(p[0])] = p[3]
             self.places[norm(p[0])] = {"parent": norm(p[1]) if p[1] else None, "old": norm(p[2][0]), "new": p[2][1], "renames": p[4], "arm": a}
             self.new_place[norm(p[0])] = n
+        # A lemma over one arm of a match is stated where the whole arm is known.
+        for q in reversed(list(self.places)):
+            it = self.places[q]
+            up = self.places.get(it["parent"])
+            if it["arm"] and up and up["arm"] and up["arm"][0] == it["arm"][0] and up["arm"][1] + 1 == it["arm"][1]:
+                self.new_place[it["parent"]] = self.new_place[q]
         self.needs = {}
         for n, a in zip(v["needs"], v["asked_at"]):
             self.needs[norm(n[0])] = (n[1], norm(a[0]))
@@ -107,9 +113,9 @@ class Turner:
         self.said = said
         self.used = set()
         self.lemmas = {}
-        self.raw = {}
+        self.projections = {}
+        self.result = None
         self.folder = ""
-        self.inlined = []
 
     def lent(self, callee):
         """The parameters of a function that are slices or arrays lent to be written."""
@@ -124,29 +130,6 @@ class Turner:
                     if m:
                         return [q.split(":")[0].strip() for q in m.group(1).split(",") if re.search(r":\s*&mut \[", q)]
         return []
-
-    def inline(self, lemma, root, place):
-        """A lemma that is stated at a place above, said at this place: the names of its other arguments are kept."""
-        if any(x[0] == lemma for x in self.inlined):
-            return
-        text = self.raw[lemma]
-        sig = signature(text, lemma)
-        m = re.match(r"(?:abbrev |pub )*" + re.escape(lemma) + r" : \((" + IDENT + r") : tie\.[A-Z][\w'-]*(?: invariant-loop[\w-]* decreases-loop[\w-]*)*\)\s*(.*)", sig, re.S)
-        clause = re.search(r"(?m)^" + re.escape(lemma) + r"((?: [\w'₀]+)*) =(?=\s)", text)
-        if not m or not clause:
-            self.said.append(f"inline by hand: {lemma}")
-            return
-        names = clause.group(1).split()
-        ty = re.sub(r"(?m)^unfolding .*$", "", m.group(2)).strip()
-        ty = re.sub(r"^→\s*", "", ty)
-        ty = re.sub(r"(?<![\w'.-])" + re.escape(m.group(1)) + r"(?![\w'-])", root, ty)
-        body = re.sub(r"(?<![\w'.-])" + re.escape(names[0]) + r"(?![\w'-])", root, text[clause.end():].strip())
-        for unf in re.findall(r"(?m)^unfolding (.*)$", text):
-            self.said.append(f"{lemma} unfolds {unf}")
-        ty = self.types(self.body(ty, {root: place}))
-        body = self.types(self.body(body, {root: place}))
-        lam = f"λ {' '.join(names[1:])}. " if len(names) > 1 else ""
-        self.inlined.append((lemma, f"let {lemma} : {ty} =\n        {lam}{body} in"))
 
     def chain(self, var, fields, place):
         """The chain var.fields, var being at place. Gives its new text and its place, if it is one."""
@@ -204,8 +187,11 @@ class Turner:
             q = self.n.places[q]["parent"]
         if rest[:1] == ["auto"] and len(rest) > 1 and rest[1].isdigit() and self.n.callees[p]:
             lent = self.lent(self.n.callees[p])
-            if int(rest[1]) < len(lent):
-                rest[1] = lent[int(rest[1])]
+            k = 1
+            while k < len(rest) and rest[k] == "1":
+                k += 1
+            if k < len(rest) and rest[k] == "0" and k - 1 < len(lent):
+                rest[1 : k + 1] = [lent[k - 1]]
         if rest[:1] == ["taken"] and it["new"].startswith(("if-", "loop-")):
             rest[0] = "true"
         if rest[:1] == ["left"] and it["new"].startswith(("if-", "loop-")):
@@ -227,7 +213,7 @@ class Turner:
                 if depth == 0:
                     break
                 depth -= 1
-            elif depth == 0 and (ch in ",;=→∙↦⊎×≡|" or before[:at].endswith((" in", "\nin", "λ", ". "))):
+            elif depth == 0 and (ch in ",;=→∙↦⊎×≡|" or before[at : at + 1].isspace() and before[:at].endswith((" in", "\nin", ")in", ".")) or before[:at].endswith("λ")):
                 break
             at -= 1
         atoms, cur, depth = [], "", 0
@@ -252,49 +238,51 @@ class Turner:
                 return want[k] if k < len(want) else None
         return None
 
-    def body(self, text, env):
-        """A term, with env: each variable that is a place, as the variable that it was got from and that one's place."""
-        env = {v: (v, p) for v, p in env.items()}
+    def earlier(self, root, place, origin, want):
+        """What stands for an earlier place in an answer or a lemma that is given root at place."""
+        if place == want:
+            return root
+        if self.n.up(place, want) is None:
+            self.said.append(f"{want} is not above {place}")
+        return f"(goal.at.{origin} {root}).{self.n.new_place[want]}"
+
+    def body(self, text, env, origin=None):
+        """A term, with env: the place of each variable that is one. origin: the goal that is answered, where it is not a lemma."""
+        env = {v: (v, p, origin or self.n.new_place[p]) for v, p in env.items()}
         bound = {}
         out, at = [], 0
         word = re.compile(r"(?<![\w'.⟨₀-])([A-Za-z_][\w'₀-]*)((?:\.[\w'₀-]+)*)")
         for m in word.finditer(text):
             var, tail = m.group(1), m.group(2)
+            before, after = text[:m.start()], text[m.end():]
+            if var in self.projections and not tail:
+                b = re.search(r"\blet (" + IDENT + r") = $", before)
+                if b and re.match(r" (?:" + IDENT + r"(?:\.before)*|\((?:[^()]|\([^()]*\))*\))\s+in\b", after):
+                    q = self.projections[var]
+                    env[b.group(1)] = (b.group(1), q, self.n.new_place[q])
+                continue
             if var == "tie" or var not in env:
                 continue
             fields = tail[1:].split(".") if tail else []
-            root, place = env[var]
-            before = text[:m.start()]
+            root, place, of = env[var]
             b = re.search(r"\blet (" + IDENT + r") = $", before)
             bare = all(f == "before" for f in fields)
-            if bare and fields and b and re.match(r"\s+in\b", text[m.end():]):
-                env[b.group(1)] = (root, place)
+            if bare and fields and b and re.match(r"\s+in\b", after):
+                env[b.group(1)] = (root, place, of)
                 bound[b.group(1)] = var + tail
                 continue
-            if bare and re.search(r"(?m)^" + IDENT + r"(?: [^=\n]*)?$", before.split("\n")[-1]) and re.match(r"(?: [^=\n]*)? =(\s|$)", text[m.end():]) and not fields:
+            if not fields and re.match(r"(?:pub )?(?:" + IDENT + r" )+$", before.split("\n")[-1].lstrip() or "x") and re.match(r"(?: [^=\n]*)? =(\s|$)", after):
                 continue
             if bare:
-                if re.search(r"(\(|λ |\(λ )" + "$", before) and re.match(r" :|\.", text[m.end():]):
+                if not fields and (re.search(r"(\(|λ |\(λ |let )$", before) or re.match(r" :|\. ", after)):
                     continue
                 want = self.wanted(before)
                 if want:
-                    n = self.n.up(place, want)
-                    if n is None:
-                        self.said.append(f"{want} is not above {place}: {m.group(0)}")
-                        continue
-                    if n and self.n.is_view(want):
-                        self.inline(self.head, root, place)
-                        out.append(text[at:m.start()].rstrip())
-                        at = m.end()
-                        continue
-                    if n and self.n.is_view(place):
-                        n += 1
-                    new = root + ".before" * n
-                elif fields:
-                    new, _ = self.chain(root, fields, place)
+                    new = self.earlier(root, place, of, want)
+                elif fields and self.result and before.rstrip().endswith("="):
+                    new = self.earlier(root, place, of, self.result)
+                elif fields or var != root:
                     self.said.append(f"a place that no lemma asks for: {m.group(0)}")
-                elif var != root:
-                    self.said.append(f"a place that no lemma asks for: {m.group(0)} = {bound.get(var)}")
                     continue
                 else:
                     new = root
@@ -305,18 +293,77 @@ class Turner:
             at = m.end()
         out.append(text[at:])
         text = "".join(out).replace(".type-inv", ".type_inv")
+
+        def projected(m):
+            q = self.projections[m.group(1)]
+            if set(m.group(3)[1:].split(".")) == {"before"}:
+                want = self.wanted(m.string[: m.start()]) or self.result
+                if not want:
+                    self.said.append(f"a place that no lemma asks for: {m.group(0)}")
+                    return m.group(0)
+                return f"(goal.at.{self.n.new_place[q]} ({m.group(1)} {m.group(2)})).{self.n.new_place[want]}"
+            new, _ = self.chain("x", m.group(3)[1:].split("."), q)
+            return f"({m.group(1)} {m.group(2)})" + new[1:]
+
+        if self.projections:
+            text = re.sub(r"\((" + "|".join(map(re.escape, self.projections)) + r") ((?:[^()]|\([^()]*\))+)\)((?:\.[\w'-]+)+)", projected, text)
         for a, b in self.n.args.items():
             text = re.sub(r"(?<=[\w'])\." + re.escape(a) + r"(?![\w'-])", "." + b, text)
         steps = {it["new"]: self.n.callees[q] for q, it in self.n.places.items() if self.n.callees[q]}
         for m in re.finditer(r"\blet (" + IDENT + r") = " + IDENT + r"\.([\w'-]+)\s+in\b", text):
             if m.group(2) in steps:
                 for i, name in enumerate(self.lent(steps[m.group(2)])):
-                    text = re.sub(r"(?<![\w'.-])" + re.escape(m.group(1)) + rf"\.auto\.{i}\b", f"{m.group(1)}.auto.{name}", text)
-        for v, chain in bound.items():
+                    text = re.sub(r"(?<![\w'.-])" + re.escape(m.group(1)) + r"\.auto" + r"\.1" * i + r"\.0\b", f"{m.group(1)}.auto.{name}", text)
+        text = re.sub(r"to_z w64 ([\w'.-]+)-bits(?![\w'-])", r"\1", text)
+        for x in self.n.bits:
+            text = re.sub(r"to_z w64 ((?:[\w'-]+\.)+" + x + r")(?![\w'.-])", r"\1", text)
+        for v, chain in reversed(list(bound.items())):
             rest = re.sub(r"\blet " + re.escape(v) + r" = [\w.'-]+\s+in\b", "", text)
             if not re.search(r"(?<![\w'.-])" + re.escape(v) + r"(?![\w'-])", rest):
                 text = re.sub(r"\blet " + re.escape(v) + r" = [\w.'-]+\s+in\s*", "", text)
         return text
+
+    def module(self, d, names):
+        """A module of the file: each of its items by itself, which names the others without the module's arguments."""
+        lines = d["lines"]
+        head = next(i for i, l in enumerate(lines) if l.rstrip().endswith("where")) + 1
+        groups, name = [], None
+        for l in lines[head:]:
+            m = re.match(r"  (?:abbrev |unfoldable |pub )*(" + IDENT + ")", l)
+            note = l.startswith("  --")
+            if m and not note and not l.startswith("  unfolding") and m.group(1) != name:
+                name = m.group(1)
+                groups.append([name, [] if not (groups and groups[-1][0] is None) else groups.pop()[1]])
+            elif note and (not groups or groups[-1][0] is not None):
+                groups.append([None, []])
+                name = None
+            if not groups:
+                groups.append([None, []])
+            groups[-1][1].append(l[2:])
+        kept = dict(self.lemmas)
+        outer = {}
+        for m in re.finditer(r"\(([^():{}]+) : tie\.([A-Z][\w'-]*)", " ".join(lines[:head])):
+            for v in m.group(1).split():
+                outer[v] = names.place(m.group(2))
+        for name, text in groups:
+            if name:
+                own = places_in(signature("\n".join(text), name), names)
+                self.lemmas.pop(name, None)
+                if any(own):
+                    self.lemmas[name] = own
+        out = lines[:head]
+        for name, text in groups:
+            joined = "\n".join(text)
+            if name:
+                c = re.search(r"(?m)^" + re.escape(name) + r"((?: [\w'₀{}= ]+?)*) =(?=\s)", joined)
+                sig = signature(joined, name)
+                env = outer | env_of(sig, [a for a in (c.group(1).split() if c else []) if not a.startswith("{")], names)
+                self.result = result_of(sig, names)
+                joined = self.body(joined, env)
+                self.result = None
+            out += ["  " + l for l in joined.split("\n")] + [""]
+        self.lemmas = kept
+        return "\n".join(out).rstrip()
 
     def types(self, text):
         def one(m):
@@ -361,7 +408,7 @@ def blocks(text):
                 decls[-1]["lines"].append(l)
                 cur = decls[-1]
                 continue
-            if decls and decls[-1]["name"] == name:
+            if decls and decls[-1]["name"] == name and name != "module":
                 decls[-1]["lines"] += note + [l]
                 note = []
                 cur = decls[-1]
@@ -390,6 +437,16 @@ def places_in(sig, names):
         else:
             pos.append(names.place(m.group(4)))
     return pos
+
+
+def d_text(d):
+    return "\n".join(d["lines"])
+
+
+def result_of(sig, names):
+    """The place that a lemma answers, where it answers one."""
+    m = re.search(r"→ tie\.([A-Z][\w'-]*)(?: invariant-loop[\w-]* decreases-loop[\w-]*)*\s*$", sig.strip())
+    return names.place(m.group(1)) if m and not m.group(1).startswith("Need-") else None
 
 
 def env_of(sig, clause_args, names):
@@ -435,7 +492,16 @@ def turn(folder, crate, path, names, said):
             pos = places_in(signature(raw[d["name"]], d["name"]), names)
             if any(pos):
                 t.lemmas[d["name"]] = pos
-                t.raw[d["name"]] = raw[d["name"]]
+                to = result_of(signature(raw[d["name"]], d["name"]), names)
+                if to:
+                    t.projections[d["name"]] = to
+        if d["name"] == "module":
+            first = d_text(d).split(" where")[0]
+            pos = places_in(first, names)
+            for item in re.findall(r"(?m)^  (?:abbrev |pub )*(" + IDENT + r")(?: : )", d_text(d)):
+                sig = re.search(r"(?ms)^  (?:abbrev |pub )*" + re.escape(item) + r" : .*?(?=^  (?:abbrev |pub )*" + re.escape(item) + r"\b(?! :)|\Z)", d_text(d))
+                t.lemmas[item] = pos + places_in(sig.group(0), names)
+                d.setdefault("items", []).append(item)
     for d in decls:
         lines = d["lines"]
         joined = "\n".join(lines)
@@ -459,8 +525,8 @@ def turn(folder, crate, path, names, said):
                 return table.get(w, w)
 
             rest = re.sub(r"(?<![\w'₀.-])" + IDENT, sub, rest)
-            if names.bits:
-                rest = re.sub(r"to_z w64 (l\.\w+)", r"\1", rest)
+            # A signed variable is a number there, and not its bits.
+            rest = re.sub(r"to_z w64 (l\.[\w.]+)", r"\1", rest)
             middle = joined[:c.start()]
             unf = re.findall(r"(?m)^unfolding .*$", middle)
             new_name = f"{kind}-{new}"
@@ -491,10 +557,8 @@ def turn(folder, crate, path, names, said):
             unf = re.findall(r"(?m)^unfolding .*$", joined[:c.start()])
             if len(params) > 1 and re.search(r"(?<![\w'])" + re.escape(params[1]) + r"(?![\w'])", body):
                 said.append(f"{m.group(1)} uses {params[1]}")
-            t.inlined = []
-            body = t.types(t.body(body, {params[0]: place} if params else {}))
-            if t.inlined:
-                body = "\n    " + "\n    ".join(x[1] for x in t.inlined) + "\n    " + body.strip()
+                params[0] += " " + params[1]
+            body = t.types(t.body(body, {params[0].split()[0]: place} if params else {}, new))
             answers.append("\n".join([*d["note"], f"pub {new} : goal.{new}", *unf, f"{new} {params[0]} ={body}" if params else f"{new} ={body}"]))
             continue
         # a lemma or a word of the file's own
@@ -502,20 +566,14 @@ def turn(folder, crate, path, names, said):
         sig = signature(joined, d["name"])
         args = [a for a in (c.group(1).split() if c else []) if not a.startswith("{")]
         env = env_of(sig, args, names)
-        t.inlined = []
-        body = t.types(t.body(joined, env))
-        if t.inlined:
-            said.append(f"by hand: the lemma {d['name']} wants {[x[0] for x in t.inlined]}")
+        if d["name"] == "module":
+            body = t.types(t.module(d, names))
+        else:
+            t.result = t.projections.get(d["name"])
+            body = t.types(t.body(joined, env))
+            t.result = None
         (invariants if d["name"] in loop_helpers else answers).append("\n".join([*d["note"], re.sub(r"^abbrev (?!pub)", "abbrev pub ", body) if d["name"] in loop_helpers else body]))
     module = f"Rattle.{crate}.proofs.{path}"
-    # A lemma that every use of it has said again at its own place goes.
-    for name in list(t.lemmas):
-        word = re.compile(r"(?<![\w'.-])" + re.escape(name) + r"(?![\w'-])")
-        own = [a for a in answers if re.search(r"(?m)^(?:abbrev |pub )*" + re.escape(name) + r" : ", a)]
-        rest = [a for a in answers if a not in own]
-        if own and all(not word.search(a) or f"let {name} : " in a for a in rest) and not any(word.search(i) for i in invariants):
-            answers = rest
-        answers = [a.replace(f"({name})", name) for a in answers]
     left = "\n".join(answers)
     t.used = {u for u in t.used if re.search(r"(?<![\w'.-])" + re.escape(u) + r"(?![\w'-])", left)}
     wrote = []

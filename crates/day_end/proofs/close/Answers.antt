@@ -27,7 +27,7 @@ abbrev book : Start → Book
 book s = view s.args.counts.now s.args.money.now
 
 -- the point that is read is the book's
-point : (c : After-load_header-h) → c.load_header-h.result.point ≡ stage (book c.before.before).today.point
+point : (c : After-load_header-h) → c.load_header-h.result.point ≡ stage (book (goal.at.After-load_header-h c).Start).today.point
 point c = ap (λ (h : Header). h.point) (c.load_header-h.ensures ∙ sound-header c.requires.0)
 
 pub load_header-h-requires : goal.load_header-h-requires
@@ -35,36 +35,32 @@ load_header-h-requires c = (sound-long c.requires.0).counts
 
 pub returns-then-h-ne3 : goal.returns-then-h-ne3
 returns-then-h-ne3 c =
-    let load = c.before.before in
     refused-made c.requires.0 (close c.args.final_rate) 2
-    (first-failed 2 [] (ap (λ n. eqb n 3) (sym (point c.before.before)) ∙ ne_eqb _ 3 c.if-h-ne3.true))
+    (first-failed 2 [] (ap (λ n. eqb n 3) (sym (point (goal.at.returns-then-h-ne3 c).After-load_header-h)) ∙ ne_eqb _ 3 c.if-h-ne3.true))
 
 -- the day is open and settled
-settled : (c : Else-h-ne3) → eqb (stage (book c.before.before.before.before).today.point) 3 ≡ true
-settled c = ap (λ n. eqb n 3) (sym (point c.before.before)) ∙ eq-eqb _ 3 c.if-h-ne3.false
+settled : (c : Else-h-ne3) → eqb (stage (book (goal.at.Else-h-ne3 c).Start).today.point) 3 ≡ true
+settled c = ap (λ n. eqb n 3) (sym (point (goal.at.Else-h-ne3 c).After-load_header-h)) ∙ eq-eqb _ 3 c.if-h-ne3.false
 
-still_open : (c : Else-h-ne3) → is_open (book c.before.before.before.before).today.point ≡ true
-still_open c = settled-open (book c.before.before.before.before).today.point (settled c)
+still_open : (c : Else-h-ne3) → is_open (book (goal.at.Else-h-ne3 c).Start).today.point ≡ true
+still_open c = settled-open (book (goal.at.Else-h-ne3 c).Start).today.point (settled c)
 
 pub close_rows-requires : goal.close_rows-requires
 close_rows-requires c =
-    let left = c.before.before in
     subst (λ z. Has (Closable z) c.args.counts.now c.args.money.now) (sym (back c.ranges.final_rate)) (record {
-      rows = rows_of (book c.before.before.before.before.before.before);
+      rows = rows_of (book (goal.at.close_rows-requires c).Start);
       whole = sound-whole c.requires.0;
-      known = rows-closable (sound-kept c.requires.0) (still_open c.before.before) c.args.final_rate c.requires.1;
+      known = rows-closable (sound-kept c.requires.0) (still_open (goal.at.close_rows-requires c).Else-h-ne3) c.args.final_rate c.requires.1;
     })
 
 pub returns : goal.returns
 unfolding after
 returns c =
-    let done = c.before.before.before in
-    let left = done.before.before.before in
-    let rows = subst (λ z. Holds c.close_rows.new.0 c.close_rows.new.1.0 (closed_rows z (rows_of (book c.before.before.before.before.before.before.before.before.before.before.before))))
-    (back c.ranges.final_rate) (c.close_rows.ensures (rows_of (book c.before.before.before.before.before.before.before.before.before.before.before)) (sound-whole c.requires.0)).holds in
+    let rows = subst (λ z. Holds c.close_rows.new.counts c.close_rows.new.1.0 (closed_rows z (rows_of (book (goal.at.returns c).Start))))
+    (back c.ranges.final_rate) (c.close_rows.ensures (rows_of (book (goal.at.returns c).Start)) (sound-whole c.requires.0)).holds in
     record {
-      answers = sym (first-passed 3 [] (settled c.before.before.before.before.before.before.before) ∙ none_left);
+      answers = sym (first-passed 3 [] (settled (goal.at.returns c).Else-h-ne3) ∙ none_left);
       memory = subst (Holds c.close_rows.new.0 c.close_rows.new.1.0)
-          (close-rows (book c.before.before.before.before.before.before.before.before.before.before.before) (sound-kept c.requires.0) (still_open c.before.before.before.before.before.before.before) c.args.final_rate)
+          (close-rows (book (goal.at.returns c).Start) (sound-kept c.requires.0) (still_open (goal.at.returns c).Else-h-ne3) c.args.final_rate)
           rows;
     }

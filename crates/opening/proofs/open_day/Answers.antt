@@ -16,26 +16,26 @@ use Rattle.standing.specs.SoundLaws.{exceptions_of, sound-long, sound-members, s
 use Rattle.opening.specs.Opens.{not_next_as}
 use Rattle.opening.specs.OpenLaws.{shut_at, works_at, expected_at, next_at, last-day, answered-shut, answered-off, answered-not-next, answered-unknown, answered-open}
 use Rattle.opening.proofs.open_day.Goals as goal
-use Rattle.opening.proofs.open_day.Goals.{After-is_next, After-is_shut, After-is_working, After-load_header-h, After-next_working-expected, Else-not-is_next, Else-not-is_shut, Else-not-is_working, Start}
+use Rattle.opening.proofs.open_day.Goals.{After-is_next, After-is_shut, After-is_working, After-listed_on-listing, After-load_header-h, After-next_working-expected, Else-not-is_next, Else-not-is_shut, Else-not-is_working, Start}
 
 -- ---- from a place back to the one before it that is asked for
 abbrev start : After-load_header-h → Start
-start c = c.before.before.before
+start c = (goal.at.After-load_header-h c).Start
 
 abbrev else1 : After-is_working → Else-not-is_shut
-else1 c = c.before.before.before
+else1 c = (goal.at.After-is_working c).Else-not-is_shut
 
 abbrev else2 : After-next_working-expected → Else-not-is_working
-else2 c = c.before.before
+else2 c = (goal.at.After-next_working-expected c).Else-not-is_working
 
 abbrev header1 : Else-not-is_shut → After-load_header-h
-header1 c = c.before.before
+header1 c = (goal.at.Else-not-is_shut c).After-load_header-h
 
 abbrev header2 : Else-not-is_working → After-load_header-h
-header2 c = header1 else1
+header2 c = header1 (else1 (goal.at.Else-not-is_working c).After-is_working)
 
 abbrev header3 : Else-not-is_next → After-load_header-h
-header3 c = header2 else2
+header3 c = header2 (else2 (goal.at.Else-not-is_next c).After-next_working-expected)
 
 abbrev memory : After-load_header-h → List ℕ
 memory c = (start c).args.counts.now
@@ -55,7 +55,7 @@ lent c =
 rises : (c : After-load_header-h) → rising (part 10 (10 + c.load_header-h.result.exceptions - 10) (memory c)) ≡ true
 rises c = ap rising (lent c) ∙ exceptions-rise (start c).requires
 
-shut-is : (c : After-is_shut) → c.is_shut.result ≡ shut_at (memory c.before)
+shut-is : (c : After-is_shut) → c.is_shut.result ≡ shut_at (memory (goal.at.After-is_shut c).After-load_header-h)
 shut-is c = c.is_shut.ensures ∙ ap (λ (x : Header). eqb x.point 1 || eqb x.point 4) c.load_header-h.ensures
 
 works-is : (c : After-is_working) → let h = header1 (else1 c) in c.is_working.result ≡ works_at (memory h) (asked h)
@@ -64,110 +64,81 @@ works-is c = let h = header1 (else1 c) in c.is_working.ensures ∙ ap (λ e. is_
 expected-is : (c : After-next_working-expected) → c.next_working-expected.result ≡ expected_at (memory (header2 (else2 c)))
 expected-is c =
     let h = header2 (else2 c) in
-    c.next_working-expected.ensures ∙ ap₂ (λ e (x : Header). next_working (is_working e) (x.day + 1)) (lent h) h.load-header.ensures
+    c.next_working-expected.ensures ∙ ap₂ (λ e (x : Header). next_working (is_working e) (x.day + 1)) (lent h) h.load_header-h.ensures
 
-next-is : (c : After-is_next) → let h = header2 else2 in c.is_next.result ≡ next_at (memory h) (asked h)
+next-is : (c : After-is_next) → let h = header2 (else2 (goal.at.After-is_next c).After-next_working-expected) in c.is_next.result ≡ next_at (memory h) (asked h)
 next-is c =
-    let h = header2 else2 in
-    c.is_next.ensures ∙ ap₂ (λ (x : Header) (a : Day). eqb x.point 1 || is_on (asked h) a) h.load-header.ensures expected-is
+    let h = header2 (else2 (goal.at.After-is_next c).After-next_working-expected) in
+    c.is_next.ensures ∙ ap₂ (λ (x : Header) (a : Day). eqb x.point 1 || is_on (asked h) a) h.load_header-h.ensures (expected-is (goal.at.After-is_next c).After-next_working-expected)
+
+listing-is : (c : After-listed_on-listing) → let h = header3 (goal.at.After-listed_on-listing c).Else-not-is_next in c.listed_on-listing.result ≡ listing (works_at (memory h)) (asked h)
+listing-is c = let h = header3 (goal.at.After-listed_on-listing c).Else-not-is_next in c.listed_on-listing.ensures ∙ ap (λ e. listing (is_working e) (asked h)) (lent h)
 
 -- ---- a test that was passed
 shut : (c : Else-not-is_shut) → shut_at (memory (header1 c)) ≡ true
-shut c = sym (shut-is c.before.before) ∙ not-false _ c.if-not-is_shut.false-raw
+shut c = sym (shut-is (goal.at.Else-not-is_shut c).After-is_shut) ∙ not-false _ c.if-not-is_shut.false-raw
 
 works : (c : Else-not-is_working) → let h = header2 c in works_at (memory h) (asked h) ≡ true
-works c = sym works-is ∙ not-false _ c.if-not-is_working.false-raw
+works c = sym (works-is (goal.at.Else-not-is_working c).After-is_working) ∙ not-false _ c.if-not-is_working.false-raw
+
+next : (c : Else-not-is_next) → let h = header3 c in next_at (memory h) (asked h) ≡ true
+next c = sym (next-is (goal.at.Else-not-is_next c).After-is_next) ∙ not-false _ c.if-not-is_next.false-raw
 
 pub load_header-h-requires : goal.load_header-h-requires
 load_header-h-requires c = (sound-long c.requires).counts
 
 pub returns-then-not-is_shut : goal.returns-then-not-is_shut
-returns-then-not-is_shut c = answered-shut (start c.before.before.before).requires _ (sym (shut-is c.before.before) ∙ not-true _ c.if-not-is_shut.true-raw)
+returns-then-not-is_shut c = answered-shut (start (goal.at.returns-then-not-is_shut c).After-load_header-h).requires _ (sym (shut-is (goal.at.returns-then-not-is_shut c).After-is_shut) ∙ not-true _ c.if-not-is_shut.true-raw)
 
 pub overflow_add-exceptions : goal.overflow_add-exceptions
 overflow_add-exceptions c = omega (arith, few (header1 c))
 
 pub is_working-requires : goal.is_working-requires
-is_working-requires c = rises header1
+is_working-requires c = rises (header1 (goal.at.is_working-requires c).Else-not-is_shut)
 
 pub returns-then-not-is_working : goal.returns-then-not-is_working
 returns-then-not-is_working c =
-    let works-is : let h = header1 else1 in c.is_working.result ≡ works_at (memory h) (asked h) =
-        let h = header1 else1 in c.is_working.ensures ∙ ap (λ e. is_working e (asked h)) (lent h) in
-    let e = else1 in
-    answered-off (start (header1 e)).requires _ (shut e) (sym works-is ∙ not-true _ c.if-not-is_working.true-raw)
+    let e = else1 (goal.at.returns-then-not-is_working c).After-is_working in
+    answered-off (start (header1 e)).requires _ (shut e) (sym (works-is (goal.at.returns-then-not-is_working c).After-is_working) ∙ not-true _ c.if-not-is_working.true-raw)
 
 pub overflow_add-h : goal.overflow_add-h
 overflow_add-h c =
-    let h = header2 in
-    omega (arith, ap (λ (x : Header). x.day) h.load-header.ensures, last-day (start h).pre)
+    let h = header2 (goal.at.overflow_add-h c).Else-not-is_working in
+    omega (arith, ap (λ (x : Header). x.day) h.load_header-h.ensures, last-day (start h).requires)
 
 pub next_working-expected-requires : goal.next_working-expected-requires
-next_working-expected-requires c = rises header2
+next_working-expected-requires c = rises (header2 (goal.at.next_working-expected-requires c).Else-not-is_working)
 
 pub returns-then-not-is_next : goal.returns-then-not-is_next
 returns-then-not-is_next c =
-    let expected-is : c.next_working-expected.result ≡ expected_at (memory (header2 else2)) =
-        let h = header2 else2 in
-    c.next_working-expected.ensures ∙ ap₂ (λ e (x : Header). next_working (is_working e) (x.day + 1)) (lent h) h.load-header.ensures in
-    let next-is : let h = header2 else2 in c.is_next.result ≡ next_at (memory h) (asked h) =
-        let h = header2 else2 in
-    c.is_next.ensures ∙ ap₂ (λ (x : Header) (a : Day). eqb x.point 1 || is_on (asked h) a) h.load-header.ensures expected-is in
-    let t = c.before in
-    let e = else2 in
-    rw (c.not_next.ensures ∙ ap not_next_as expected-is)
-    (answered-not-next (start (header2 e)).requires _ (shut (else1 e.before)) (works e) (sym next-is ∙ not-true _ c.if-not-is_next.true-raw))
+    let e = else2 (goal.at.returns-then-not-is_next c).After-next_working-expected in
+    rw (c.not_next.ensures ∙ ap not_next_as (expected-is (goal.at.returns-then-not-is_next c).After-next_working-expected))
+    (answered-not-next (start (header2 e)).requires _ (shut (else1 (goal.at.Else-not-is_working e).After-is_working)) (works e) (sym (next-is (goal.at.returns-then-not-is_next c).After-is_next) ∙ not-true _ c.if-not-is_next.true-raw))
 
 pub listed_on-listing-requires : goal.listed_on-listing-requires
 listed_on-listing-requires c = rises (header3 c)
 
 pub returns-then-not-listing : goal.returns-then-not-listing
 returns-then-not-listing c =
-    let expected-is : c.next_working-expected.result ≡ expected_at (memory (header2 else2)) =
-        let h = header2 else2 in
-    c.next_working-expected.ensures ∙ ap₂ (λ e (x : Header). next_working (is_working e) (x.day + 1)) (lent h) h.load-header.ensures in
-    let next-is : let h = header2 else2 in c.is_next.result ≡ next_at (memory h) (asked h) =
-        let h = header2 else2 in
-    c.is_next.ensures ∙ ap₂ (λ (x : Header) (a : Day). eqb x.point 1 || is_on (asked h) a) h.load-header.ensures expected-is in
-    let next : let h = header3 in next_at (memory h) (asked h) ≡ true =
-        sym next-is ∙ not-false _ c.if-not-is_next.false-raw in
-    let listing-is : let h = header3 in c.listed_on-listing.result ≡ listing (works_at (memory h)) (asked h) =
-        let h = header3 in c.listed_on-listing.ensures ∙ ap (λ e. listing (is_working e) (asked h)) (lent h) in
-    let l = c.before.before in
-    let e2 = else2 in
-    answered-unknown (start (header2 e2)).requires _ (shut (else1 e2.before)) (works e2) next
-    (sym (ap (λ (x : Listing). x.known) listing-is) ∙ not-true _ c.if-not-listing.true)
+    let e2 = else2 (goal.at.returns-then-not-listing c).After-next_working-expected in
+    answered-unknown (start (header2 e2)).requires _ (shut (else1 (goal.at.Else-not-is_working e2).After-is_working)) (works e2) (next (goal.at.returns-then-not-listing c).Else-not-is_next)
+    (sym (ap (λ (x : Listing). x.known) (listing-is (goal.at.returns-then-not-listing c).After-listed_on-listing)) ∙ not-true _ c.if-not-listing.true)
 
 pub relist-requires : goal.relist-requires
 relist-requires c =
-    let s = (start header3).requires in
+    let s = (start (header3 (goal.at.relist-requires c).Else-not-is_next)).requires in
     (sound-long s, (sound-listed s, sound-members s))
 
 pub store_header-requires : goal.store_header-requires
 store_header-requires c =
-    let s = (start header3).requires in
+    let s = (start (header3 (goal.at.store_header-requires c).Else-not-is_next)).requires in
     c.relist.auto.counts ∙ (sound-long s).counts
 
 pub returns : goal.returns
 returns c =
-    let expected-is : c.next_working-expected.result ≡ expected_at (memory (header2 else2)) =
-        let h = header2 else2 in
-    c.next_working-expected.ensures ∙ ap₂ (λ e (x : Header). next_working (is_working e) (x.day + 1)) (lent h) h.load-header.ensures in
-    let next-is : let h = header2 else2 in c.is_next.result ≡ next_at (memory h) (asked h) =
-        let h = header2 else2 in
-    c.is_next.ensures ∙ ap₂ (λ (x : Header) (a : Day). eqb x.point 1 || is_on (asked h) a) h.load-header.ensures expected-is in
-    let next : let h = header3 in next_at (memory h) (asked h) ≡ true =
-        sym next-is ∙ not-false _ c.if-not-is_next.false-raw in
-    let listing-is : let h = header3 in c.listed_on-listing.result ≡ listing (works_at (memory h)) (asked h) =
-        let h = header3 in c.listed_on-listing.ensures ∙ ap (λ e. listing (is_working e) (asked h)) (lent h) in
-    let put = c.before.before in
-    let made = put.before.before in
-    let r = made.before.before.before.before in
-    let last = r.before.before.before.before in
-    let l = last.before.before in
-    let e2 = else2 in
+    let e2 = else2 (goal.at.returns c).After-next_working-expected in
     let h = header2 e2 in
-    rw (c.store_header.ensures, c.open_header-g.ensures, h.load-header.ensures)
-    (answered-open (start h).pre _ (shut (else1 e2.before)) (works e2) next
-    (sym (ap (λ (x : Listing). x.known) listing-is) ∙ not-false _ c.if-not-listing.false)
-    (rw (ap (λ (x : Listing). x.codes) listing-is) at c.relist.ensures))
+    rw (c.store_header.ensures, c.open_header-g.ensures, h.load_header-h.ensures)
+    (answered-open (start h).requires _ (shut (else1 (goal.at.Else-not-is_working e2).After-is_working)) (works e2) (next (goal.at.returns c).Else-not-is_next)
+    (sym (ap (λ (x : Listing). x.known) (listing-is (goal.at.returns c).After-listed_on-listing)) ∙ not-false _ c.if-not-listing.false)
+    (rw (ap (λ (x : Listing). x.codes) (listing-is (goal.at.returns c).After-listed_on-listing)) at c.relist.ensures))

@@ -13,8 +13,6 @@ previous_rates-previous-requires c = (sound-long c.requires).money
 
 pub returns : goal.returns
 returns c =
-    let rates = c.before.before.before in
-    let listed = rates.before.before in
     standing-parts (view c.args.counts.now c.args.money.now) c.args.number
     (c.codes-listed.ensures ∙ codes-are c.requires)
     (c.previous_rates-previous.ensures ∙ previous-are c.requires)

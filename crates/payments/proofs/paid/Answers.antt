@@ -11,10 +11,10 @@ amount : (s : Start) → to_z w64 (of_z w64 s.args.amount) ≡ s.args.amount
 amount s = (arg (amount-within s.requires.1) tt).eq
 
 pub returns-in-In : goal.returns-in-In
-returns-in-In c = rw (c.in-In.is, c.pay_in.ensures, amount c.before.before)
+returns-in-In c = rw (c.in-In.is, c.pay_in.ensures, amount (goal.at.returns-in-In c).Start)
 
 pub returns-in-Out : goal.returns-in-Out
-returns-in-Out c = rw (c.in-Out.is, c.pay_out.ensures, amount c.before.before)
+returns-in-Out c = rw (c.in-Out.is, c.pay_out.ensures, amount (goal.at.returns-in-Out c).Start)
 
 pub returns-in-Back : goal.returns-in-Back
-returns-in-Back c = rw (c.in-Back.is, c.release.ensures, amount c.before.before)
+returns-in-Back c = rw (c.in-Back.is, c.release.ensures, amount (goal.at.returns-in-Back c).Start)

@@ -15,7 +15,7 @@ use Rattle.payments.proofs.transfer.Goals as goal
 use Rattle.payments.proofs.transfer.Goals.{After-place_of, Start}
 
 abbrev start : After-place_of → Start
-start c = c.before.before.before.before.before.before
+start c = (goal.at.After-place_of c).Start
 
 -- the account's place, by the memory's own header
 found : (c : After-place_of) →
@@ -46,36 +46,31 @@ place_of-requires c =
     ((sound-long s).counts, sound-members s)
 
 pub load_account-a-requires : goal.load_account-a-requires
-load_account-a-requires c = row-there c.before.before c.in-Row.is
+load_account-a-requires c = row-there (goal.at.load_account-a-requires c).After-place_of c.in-Row.is
 
 pub paid-payment-requires : goal.paid-payment-requires
 paid-payment-requires c =
-    let row = c.before.before.before.before.before in
-    let a = (start c.before.before.before).args in
-    let low = (start c.before.before.before).requires.1 in (
-      payer-sound (start c.before.before.before).requires.0 a.way a.number (pos a.amount) (found c.before.before.before) c.in-Row.is c.load_account-a.ensures,
+    let a = (start (goal.at.paid-payment-requires c).After-place_of).args in
+    let low = (start (goal.at.paid-payment-requires c).After-place_of).requires.1 in (
+      payer-sound (start (goal.at.paid-payment-requires c).After-place_of).requires.0 a.way a.number (pos a.amount) (found (goal.at.paid-payment-requires c).After-place_of) c.in-Row.is c.load_account-a.ensures,
       subst (Amount 100000000000000) (sym (unsigned low tt).eq) (amount-pos a.amount low),
     )
 
 pub pay-requires : goal.pay-requires
 pay-requires c =
-    row-there c.before.before.before.before.before.before c.in-Row.is
+    row-there (goal.at.pay-requires c).After-place_of c.in-Row.is
 
 pub returns-in-Refused : goal.returns-in-Refused
 returns-in-Refused c =
-    let a = (start c.before.before).args in
-    pay-refused (start c.before.before).requires.0 a.way a.number (pos a.amount) (found c.before.before) c.in-Refused.is
+    let a = (start (goal.at.returns-in-Refused c).After-place_of).args in
+    pay-refused (start (goal.at.returns-in-Refused c).After-place_of).requires.0 a.way a.number (pos a.amount) (found (goal.at.returns-in-Refused c).After-place_of) c.in-Refused.is
 
 pub returns-in-Row : goal.returns-in-Row
 returns-in-Row c =
-    let done = c.before.before.before in
-    let paid = done.before.before.before in
-    let load = paid.before.before in
-    let row = load.before.before.before.before in
-    let a = (start c.before.before.before.before.before.before.before.before.before.before.before).args in
-    paid-made (start c.before.before.before.before.before.before.before.before.before.before.before).requires.0 a.way a.number (pos a.amount) (found c.before.before.before.before.before.before.before.before.before.before.before) c.in-Row.is
+    let a = (start (goal.at.returns-in-Row c).After-place_of).args in
+    paid-made (start (goal.at.returns-in-Row c).After-place_of).requires.0 a.way a.number (pos a.amount) (found (goal.at.returns-in-Row c).After-place_of) c.in-Row.is
     c.load_account-a.ensures
-    (c.paid-payment.ensures ∙ ap (paid_by a.way c.load_account-a.result.funds) (unsigned (start c.before.before.before.before.before.before.before.before.before.before.before).requires.1 tt).eq)
+    (c.paid-payment.ensures ∙ ap (paid_by a.way c.load_account-a.result.funds) (unsigned (start (goal.at.returns-in-Row c).After-place_of).requires.1 tt).eq)
     c.pay.ensures.0
     c.pay.ensures.1.0
     c.pay.ensures.1.1

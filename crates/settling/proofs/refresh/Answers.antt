@@ -14,7 +14,5 @@ returns-then-h-ne3 c =
 
 pub returns : goal.returns
 returns c =
-    let done = c.before.before.before in
-    let test = done.before.before.before in
     let s = c.requires in
     accepted s refresh 3 (refresh-asks s) c.load_header-h.ensures c.if-h-ne3.false c.refresh_members.ensures

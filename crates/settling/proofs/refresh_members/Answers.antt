@@ -33,59 +33,54 @@ module _ (s : Start) where
 -- ---- a turn
 long : (c : At-loop-i) → Long c.loop-i.counts c.loop-i.money
 long c =
-    let b = book c.before.before in
-    walk-long (rows_of b) (rows-shaped (is-kept c.before.before)) (change b) (refreshed-six _) c.loop-i.i c.loop-i.invariant.1
+    let b = book (goal.at.At-loop-i c).Start in
+    walk-long (rows_of b) (rows-shaped (is-kept (goal.at.At-loop-i c).Start)) (change b) (refreshed-six _) c.loop-i.i c.loop-i.invariant.1
 
-below : (c : In-loop-i) → c.loop-i.i < length (book c.before.before.before).accounts.members
-below c = omega (arith, many c.before.before.before)
+below : (c : In-loop-i) → c.loop-i.i < length (book (goal.at.In-loop-i c).Start).accounts.members
+below c = omega (arith, many (goal.at.In-loop-i c).Start)
 
 small : (c : In-loop-i) → c.loop-i.i < 64
-small c = omega (arith, below c, (is-kept c.before.before.before).sized.members)
+small c = omega (arith, below c, (is-kept (goal.at.In-loop-i c).Start).sized.members)
 
 pub loop-i-init : goal.loop-i-init
-loop-i-init c = (omega arith, walk_start (change (book c.before)) (sound-holds c.requires.0))
+loop-i-init c = (omega arith, walk_start (change (book (goal.at.loop-i-init c).Start)) (sound-holds c.requires.0))
 
 pub load_account-a-requires : goal.load_account-a-requires
-load_account-a-requires c = (long c.before, small c)
+load_account-a-requires c = (long (goal.at.load_account-a-requires c).At-loop-i, small c)
 
 pub refresh_account-b-requires : goal.refresh_account-b-requires
 refresh_account-b-requires c =
     let l = c.loop-i in
-    let s = c.before.before.before.before.before.before in
     rw c.load_account-a.ensures (
-      turn-limits (is-kept s) (change (book s)) (refreshed-six _) l.i l.invariant.1 (below c.before),
-      subst GoodReference (sym (rate s)) (good-reference (is-kept s)),
+      turn-limits (is-kept (goal.at.refresh_account-b-requires c).Start) (change (book (goal.at.refresh_account-b-requires c).Start)) (refreshed-six _) l.i l.invariant.1 (below (goal.at.refresh_account-b-requires c).In-loop-i),
+      subst GoodReference (sym (rate (goal.at.refresh_account-b-requires c).Start)) (good-reference (is-kept (goal.at.refresh_account-b-requires c).Start)),
     )
 
 pub store_account-requires : goal.store_account-requires
-store_account-requires c = (long c.before.before.before.before.before, small c.before.before.before.before)
+store_account-requires c = (long (goal.at.store_account-requires c).At-loop-i, small (goal.at.store_account-requires c).In-loop-i)
 
 pub overflow_add-i : goal.overflow_add-i
-overflow_add-i c = omega (arith, small c.before.before.before.before.before.before.before.before.before)
+overflow_add-i c = omega (arith, small (goal.at.overflow_add-i c).In-loop-i)
 
 pub loop-i-preserved : goal.loop-i-preserved
 loop-i-preserved c =
-    let put = c.before.before.before in
-    let did = put.before.before.before in
-    let t = did.before.before.before.before in
     let l = c.loop-i in
-    let s = t.before.before.before in (
+    (
       omega arith,
-      walk_step (rows_of (book s)) (rows-shaped (is-kept s)) (change (book s)) (refreshed-six _) l.i l.invariant.1 (small c.before.before.before.before.before.before.before.before.before)
-          (c.refresh_account-b.ensures ∙ ap₂ refreshed (rate s) c.load_account-a.ensures)
+      walk_step (rows_of (book (goal.at.loop-i-preserved c).Start)) (rows-shaped (is-kept (goal.at.loop-i-preserved c).Start)) (change (book (goal.at.loop-i-preserved c).Start)) (refreshed-six _) l.i l.invariant.1 (small (goal.at.loop-i-preserved c).In-loop-i)
+          (c.refresh_account-b.ensures ∙ ap₂ refreshed (rate (goal.at.loop-i-preserved c).Start) c.load_account-a.ensures)
           c.store_account.ensures.0
           c.store_account.ensures.1,
     )
 
 -- ---- the end
 pub shape_of-counts : goal.shape_of-counts
-shape_of-counts c = (long c.before).counts ∙ sym (sound-long c.requires.0).counts
+shape_of-counts c = (long (goal.at.shape_of-counts c).At-loop-i).counts ∙ sym (sound-long c.requires.0).counts
 
 pub shape_of-money : goal.shape_of-money
-shape_of-money c = (long c.before).money ∙ sym (sound-long c.requires.0).money
+shape_of-money c = (long (goal.at.shape_of-money c).At-loop-i).money ∙ sym (sound-long c.requires.0).money
 
 pub returns : goal.returns
 returns c =
     let l = c.loop-i in
-    let s = c.before.before.before in
-    refresh-end (is-kept s) l.i (omega (arith, many s)) l.invariant.1
+    refresh-end (is-kept (goal.at.returns c).Start) l.i (omega (arith, many (goal.at.returns c).Start)) l.invariant.1

@@ -14,7 +14,5 @@ returns-then-h-ne2 c =
 
 pub returns : goal.returns
 returns c =
-    let done = c.before.before.before in
-    let test = done.before.before.before in
     let s = c.requires in
     accepted s settle 2 (settle-asks s) c.load_header-h.ensures c.if-h-ne2.false c.settle_members.ensures

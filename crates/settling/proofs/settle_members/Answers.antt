@@ -35,49 +35,42 @@ module _ (s : Start) where
 -- ---- a turn
 long : (c : At-loop-i) → Long c.loop-i.counts c.loop-i.money
 long c =
-    let s = c.before.before.before.before in
-    walk-long (rows_of (book s)) (rows-shaped (is-kept s)) settled_row settled-six c.loop-i.i c.loop-i.invariant.1
+    walk-long (rows_of (book (goal.at.At-loop-i c).Start)) (rows-shaped (is-kept (goal.at.At-loop-i c).Start)) settled_row settled-six c.loop-i.i c.loop-i.invariant.1
 
-below : (c : In-loop-i) → c.loop-i.i < length (book c.before.before.before.before.before).accounts.members
-below c = omega (arith, many c.before.before.before.before.before)
+below : (c : In-loop-i) → c.loop-i.i < length (book (goal.at.In-loop-i c).Start).accounts.members
+below c = omega (arith, many (goal.at.In-loop-i c).Start)
 
 small : (c : In-loop-i) → c.loop-i.i < 64
-small c = omega (arith, below c, (is-kept c.before.before.before.before.before).sized.members)
+small c = omega (arith, below c, (is-kept (goal.at.In-loop-i c).Start).sized.members)
 
 pub load_house-house-requires : goal.load_house-house-requires
 load_house-house-requires c = (sound-long c.requires.0).money
 
 pub loop-i-init : goal.loop-i-init
 loop-i-init c =
-    let s = c.before.before.before in (
+    (
       omega arith,
       walk_start settled_row (sound-holds c.requires.0),
-      told c.load_house-house.result c.load_house-house.type_inv ∙ c.load_house-house.ensures ∙ sound-house c.requires.0 ∙ sym (house-start (book s)),
+      told c.load_house-house.result c.load_house-house.type_inv ∙ c.load_house-house.ensures ∙ sound-house c.requires.0 ∙ sym (house-start (book (goal.at.loop-i-init c).Start)),
     )
 
 pub load_account-a-requires : goal.load_account-a-requires
-load_account-a-requires c =
-    let long : Long c.loop-i.counts c.loop-i.money =
-        let s = c.before.before.before.before in
-    walk-long (rows_of (book s)) (rows-shaped (is-kept s)) settled_row settled-six c.loop-i.i c.loop-i.invariant.1 in
-    (long, small c)
+load_account-a-requires c = (long (goal.at.load_account-a-requires c).At-loop-i, small c)
 
 pub settled-s-requires : goal.settled-s-requires
 settled-s-requires c =
-    let below : c.loop-i.i < length (book c.before.before.before.before.before).accounts.members =
-        omega (arith, many c.before.before.before.before.before) in
     let l = c.loop-i in
     rw c.load_account-a.ensures
-    (turn-funds (is-kept c.before.before.before.before.before) settled_row settled-six l.i l.invariant.1 below)
+    (turn-funds (is-kept (goal.at.settled-s-requires c).Start) settled_row settled-six l.i l.invariant.1 (below (goal.at.settled-s-requires c).In-loop-i))
 
 -- the house after this turn
 module _ (c : After-struct_told-1) where
   abbrev turn : In-loop-i
-  turn = c.before.before.before.before.before.before.before.before
+  turn = (goal.at.After-struct_told-1 c).In-loop-i
   abbrev start : Start
-  start = turn.before.before.before.before.before
+  start = (goal.at.After-struct_told-1 c).Start
   abbrev place : ℕ
-  place = turn.before.loop.i
+  place = turn.loop-i.i
   abbrev answer : Settlement
   answer = c.settled-s.result
   paid-is : to_z w64 (of_z w64 answer.paid) ≡ paid_to (book start) (get_or (book start).accounts.members place 0)
@@ -86,9 +79,9 @@ module _ (c : After-struct_told-1) where
       ∙ ap (λ (x : Settlement). x.paid) c.settled-s.ensures
       ∙ ap (λ (a : Account). (settled a.funds).paid)
       (c.load_account-a.ensures
-      ∙ walk-member (is-kept start) settled_row settled-six place turn.before.loop.inv.1 (below turn))
-  house-is : to_z w64 turn.before.loop.house -ℤ to_z w64 (of_z w64 answer.paid) ≡ house_after (book start) (place + 1)
-  house-is = ap₂ ◌-ℤ◌ turn.before.loop.inv.2 paid-is ∙ house-step (book start) place (below turn)
+      ∙ walk-member (is-kept start) settled_row settled-six place turn.loop-i.invariant.1 (below turn))
+  house-is : to_z w64 turn.loop-i.house-bits -ℤ to_z w64 (of_z w64 answer.paid) ≡ house_after (book start) (place + 1)
+  house-is = ap₂ ◌-ℤ◌ turn.loop-i.invariant.2 paid-is ∙ house-step (book start) place (below turn)
   house-fits : SFits w64 (house_after (book start) (place + 1))
   house-fits = fits64 (house-within (is-kept start) (place + 1)) tt
 
@@ -96,10 +89,10 @@ pub overflow_sub-house : goal.overflow_sub-house
 overflow_sub-house c = fits-is (house-is c) (house-fits c)
 
 pub store_account-requires : goal.store_account-requires
-store_account-requires c = let t = turn c.before.before in (long t.before, small t)
+store_account-requires c = let t = turn (goal.at.store_account-requires c).After-struct_told-1 in (long (goal.at.In-loop-i t).At-loop-i, small t)
 
 pub overflow_add-i : goal.overflow_add-i
-overflow_add-i c = omega (arith, small (turn c.before.before.before.before.before.before))
+overflow_add-i c = omega (arith, small (turn (goal.at.overflow_add-i c).After-struct_told-1))
 
 -- an account with what its settlement leaves it
 abbrev paid_row : Account → Settlement → Account
@@ -107,53 +100,35 @@ paid_row a x = record { number = a.number; holdings = a.holdings; funds = x.fund
 
 pub loop-i-preserved : goal.loop-i-preserved
 loop-i-preserved c =
-    let put = c.before.before.before in
-    let did = put.before.before.before in
-    let s = start did in
-    let more : place did + 1 ≤ s.args.h.members = omega (arith, below (turn did), many s) in (
+    let s = start (goal.at.loop-i-preserved c).After-struct_told-1 in
+    let more : place (goal.at.loop-i-preserved c).After-struct_told-1 + 1 ≤ s.args.h.members = omega (arith, below (turn (goal.at.loop-i-preserved c).After-struct_told-1), many s) in (
       more,
-      walk_step (rows_of (book s)) (rows-shaped (is-kept s)) settled_row settled-six (place did) (turn did).before.loop.invariant.1 (small (turn did))
+      walk_step (rows_of (book s)) (rows-shaped (is-kept s)) settled_row settled-six (place (goal.at.loop-i-preserved c).After-struct_told-1) (turn (goal.at.loop-i-preserved c).After-struct_told-1).loop-i.invariant.1 (small (turn (goal.at.loop-i-preserved c).After-struct_told-1))
           (ap (paid_row c.load_account-a.result) c.settled-s.ensures
           ∙ ap settled_row c.load_account-a.ensures)
           c.store_account.ensures.0
           c.store_account.ensures.1,
-      back_is (house-is did) (house-fits did),
+      back_is (house-is (goal.at.loop-i-preserved c).After-struct_told-1) (house-fits (goal.at.loop-i-preserved c).After-struct_told-1),
     )
 
 -- ---- the end
 pub store_house-requires : goal.store_house-requires
-store_house-requires c =
-    let long : Long c.loop-i.counts c.loop-i.money =
-        let s = c.before.before.before.before in
-    walk-long (rows_of (book s)) (rows-shaped (is-kept s)) settled_row settled-six c.loop-i.i c.loop-i.invariant.1 in
-    long.money
+store_house-requires c = (long (goal.at.store_house-requires c).At-loop-i).money
 
 pub store_header-requires : goal.store_header-requires
-store_header-requires c =
-    let long : Long c.loop-i.counts c.loop-i.money =
-        let s = c.before.before.before.before in
-    walk-long (rows_of (book s)) (rows-shaped (is-kept s)) settled_row settled-six c.loop-i.i c.loop-i.invariant.1 in
-    long.counts
+store_header-requires c = (long (goal.at.store_header-requires c).At-loop-i).counts
 
 pub shape_of-counts : goal.shape_of-counts
 shape_of-counts c =
-    let long : Long c.loop-i.counts c.loop-i.money =
-        let s = c.before.before.before.before in
-    walk-long (rows_of (book s)) (rows-shaped (is-kept s)) settled_row settled-six c.loop-i.i c.loop-i.invariant.1 in
-    c.store_header.auto.counts ∙ long.counts ∙ sym (sound-long c.requires.0).counts
+    c.store_header.auto.counts ∙ (long (goal.at.shape_of-counts c).At-loop-i).counts ∙ sym (sound-long c.requires.0).counts
 
 pub shape_of-money : goal.shape_of-money
 shape_of-money c =
-    let long : Long c.loop-i.counts c.loop-i.money =
-        let s = c.before.before.before.before in
-    walk-long (rows_of (book s)) (rows-shaped (is-kept s)) settled_row settled-six c.loop-i.i c.loop-i.invariant.1 in
-    c.store_house.auto.money ∙ long.money
+    c.store_house.auto.money ∙ (long (goal.at.shape_of-money c).At-loop-i).money
     ∙ sym (sound-long c.requires.0).money
 
 pub returns : goal.returns
 returns c =
-    let l = c.before.before.before.before.before.before.before.before in
-    let s = l.before.before.before.before in
-    settle-end (is-kept s) c.loop-i.i (omega (arith, many s)) c.loop-i.invariant.1 (c.requires.1 ∙ sound-header c.requires.0) c.loop-i.invariant.2
+    settle-end (is-kept (goal.at.returns c).Start) c.loop-i.i (omega (arith, many (goal.at.returns c).Start)) c.loop-i.invariant.1 (c.requires.1 ∙ sound-header c.requires.0) c.loop-i.invariant.2
     c.store_header.ensures
     c.store_house.ensures

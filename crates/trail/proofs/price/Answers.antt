@@ -18,23 +18,23 @@ pub price_row-amount-requires : goal.price_row-amount-requires
 price_row-amount-requires c =
     let l = c.loop-i in
     let a = c.args in
-    let rate = passed (arg c.requires.within.0 tt) in (
-      (omega arith, omega (arith, l.invariant.0.long)),
-      (rate, next-modest a.code _ a.counts.now a.money.now l.i l.invariant.0 c.requires.used_bound.0 rate c.requires.within.1 (omega arith)),
-    )
+    let rate = passed (arg c.requires.within.0 tt) in record {
+      i_in_bounds = (omega arith, omega (arith, l.invariant.0.long));
+      within = (rate, next-modest a.code _ a.counts.now a.money.now l.i l.invariant.0 c.requires.used_bound.0 rate c.requires.within.1 (omega arith));
+    }
 
 -- with one row more
 more : (c : After-money-1)
     → let l = c.loop-i in
     let a = c.args in
     Priced a.counts.now a.money.now (l.i + 1) a.code (to_z w64 (of_z w64 a.rate))
-    (to_z w64 l.sum +ℤ to_z w64 (of_z w64 c.price_row-amount.result))
-    c.price_row-amount.new.1.0
+    (to_z w64 l.sum-bits +ℤ to_z w64 (of_z w64 c.price_row-amount.result))
+    c.price_row-amount.new.money
 more c =
     let l = c.loop-i in
     let a = c.args in
     let call = c.price_row-amount in
-    rw (told call.result call.type_inv, call.ensures.0, call.ensures.1)
+    rw (told call.result call.type_inv, call.ensures.value, call.ensures.money_after)
     (priced-more a.code _ a.counts.now a.money.now l.i l.invariant.0 (omega arith))
 
 sum : (c : After-money-1)

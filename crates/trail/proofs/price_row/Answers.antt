@@ -20,19 +20,16 @@ modest c = subst Modest (sym c.load_row-row.ensures) c.requires.within.1
 
 pub worth-amount-requires : goal.worth-amount-requires
 worth-amount-requires c =
-    let modest : Modest c.load_row-row.result =
-        subst Modest (sym c.load_row-row.ensures) c.requires.within.1 in
-    (pass modest.lots tt tt, (pass modest.rate tt tt, pass c.requires.within.0 tt tt))
+    (pass (modest (goal.at.worth-amount-requires c).After-load_row-row).lots tt tt, (pass (modest (goal.at.worth-amount-requires c).After-load_row-row).rate tt tt, pass c.requires.within.0 tt tt))
 
 -- what the call answers is what the row's trade earns
 amount : (c : After-worth-amount)
     → let a = c.args in
     to_z w64 (of_z w64 c.worth-amount.result) ≡ worth a.rate (row_at a.counts.now a.money.now a.i)
 amount c =
-    let load = c.before.before.before.before.before in
     told c.worth-amount.result c.worth-amount.type_inv
     ∙ c.worth-amount.ensures
-    ∙ rw ((arg c.requires.within.0 tt).eq, (arg modest.lots tt).eq, (arg modest.rate tt).eq)
+    ∙ rw ((arg c.requires.within.0 tt).eq, (arg (modest (goal.at.After-worth-amount c).After-load_row-row).lots tt).eq, (arg (modest (goal.at.After-worth-amount c).After-load_row-row).rate tt).eq)
     (ap (worth c.args.rate) c.load_row-row.ensures)
 
 pub returns-then-code-row : goal.returns-then-code-row
@@ -40,11 +37,11 @@ returns-then-code-row c =
     let a = c.args in
     let same : eqb a.code (row_at a.counts.now a.money.now a.i).code ≡ true =
     eq-eqb _ _ (c.if-code-row.true ∙ ap (λ (r : Row). r.code) c.load_row-row.ensures) in
-    (amount c ∙ sym (when_true _ _ same), ap (set a.money.now _) (amount c) ∙ sym (when_true _ _ same))
+    record { value = amount (goal.at.returns-then-code-row c).After-worth-amount ∙ sym (when_true _ _ same); money_after = ap (set a.money.now _) (amount (goal.at.returns-then-code-row c).After-worth-amount) ∙ sym (when_true _ _ same) }
 
 pub returns : goal.returns
 returns c =
     let a = c.args in
     let other : eqb a.code (row_at a.counts.now a.money.now a.i).code ≡ false =
     ne_eqb _ _ (λ e. c.if-code-row.false (e ∙ sym (ap (λ (r : Row). r.code) c.load_row-row.ensures))) in
-    (sym (when_false _ _ other), sym (when_false _ _ other))
+    record { value = sym (when_false _ _ other); money_after = sym (when_false _ _ other) }

@@ -28,11 +28,6 @@ all-six r h i j k l m = rw (h, i, j, k, l, m)
 
 pub returns : goal.returns
 returns c =
-    let limit = c.before in
-    let after = limit.before in
-    let before = after.before in
-    let rate = before.before in
-    let lots = rate.before in
     let r = c.args.row in
     sets-all c.args.cells.now (map (λ z. to_z w64 (of_z w64 z)) (row_money r)) c.requires
     ∙ all-six r

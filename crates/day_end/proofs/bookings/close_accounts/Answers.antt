@@ -25,7 +25,7 @@ members c =
 
 inside : (c : In-loop-i) → c.loop-i.i < 64
 inside c =
-    omega (arith, members c.before.before, c.requires.known.members)
+    omega (arith, members (goal.at.In-loop-i c).After-load_header-h, c.requires.known.members)
 
 pub load_header-h-requires : goal.load_header-h-requires
 load_header-h-requires c = let p = c.requires in (memory-long _ p.whole.shaped p.whole.holds).counts
@@ -34,52 +34,46 @@ pub loop-i-init : goal.loop-i-init
 loop-i-init c = let s = c.args in (omega arith, walks-none _ _ (closed_row s.ended s.d))
 
 pub load_account-a-requires : goal.load_account-a-requires
-load_account-a-requires c = let turn = c.before.before in (long c.before, inside turn)
+load_account-a-requires c = (long (goal.at.load_account-a-requires c).At-loop-i, inside c)
 
 pub closed_row-x-requires : goal.closed_row-x-requires
 closed_row-x-requires c =
-    let turn = c.before.before.before in
     let l = c.loop-i in
-    let load = turn.before.before in
     let p = c.requires in
     let now = l.invariant.1 p.rows p.whole in (
       rw (c.load_account-a.ensures
-          ∙ walk-row p.rows p.whole.shaped _ (closed-six c.args.ended c.args.d p.known.end) l.i now.holds (inside c.before))
-          (p.known.accounts l.i (omega (arith, members c.before.before.before))),
+          ∙ walk-row p.rows p.whole.shaped _ (closed-six c.args.ended c.args.d p.known.end) l.i now.holds (inside (goal.at.closed_row-x-requires c).In-loop-i))
+          (p.known.accounts l.i (omega (arith, members (goal.at.closed_row-x-requires c).After-load_header-h))),
       p.known.end,
     )
 
 pub store_account-requires : goal.store_account-requires
-store_account-requires c = let turn = c.before.before.before.before.before.before in (long c.before.before.before.before.before, inside turn)
+store_account-requires c = (long (goal.at.store_account-requires c).At-loop-i, inside (goal.at.store_account-requires c).In-loop-i)
 
 pub overflow_add-i : goal.overflow_add-i
-overflow_add-i c = omega (arith, inside c.before.before.before.before.before.before.before.before.before.before)
+overflow_add-i c = omega (arith, inside (goal.at.overflow_add-i c).In-loop-i)
 
 pub loop-i-preserved : goal.loop-i-preserved
 loop-i-preserved c =
-    let store = c.before.before.before in
-    let row = store.before.before.before in
-    let turn = row.before.before.before.before in
     let l = c.loop-i in
     let did = c.closed_row-x.ensures ∙ ap (closed_row c.args.ended c.args.d) c.load_account-a.ensures in
     let six = closed-six c.args.ended c.args.d c.requires.known.end in
     let put = c.store_account.ensures in
-    (omega arith, walks_more _ _ _ l.i six l.invariant.1 (inside c.before.before.before.before.before.before.before.before.before) did put.0 put.1)
+    (omega arith, walks_more _ _ _ l.i six l.invariant.1 (inside (goal.at.loop-i-preserved c).In-loop-i) did put.0 put.1)
 
 pub shape_of-counts : goal.shape_of-counts
 shape_of-counts c =
     let p = c.requires in
-    (long c.before).counts ∙ sym (memory-long _ p.whole.shaped p.whole.holds).counts
+    (long (goal.at.shape_of-counts c).At-loop-i).counts ∙ sym (memory-long _ p.whole.shaped p.whole.holds).counts
 
 pub shape_of-money : goal.shape_of-money
 shape_of-money c =
     let p = c.requires in
-    (long c.before).money ∙ sym (memory-long _ p.whole.shaped p.whole.holds).money
+    (long (goal.at.shape_of-money c).At-loop-i).money ∙ sym (memory-long _ p.whole.shaped p.whole.holds).money
 
 pub returns : goal.returns
-returns c =
+returns c r =
     let l = c.loop-i in
-    let load = c.before.before in
     let all : l.i ≡ r.header.members =
     (let e : l.i ≡ c.load_header-h.result.members = omega arith in
     e ∙ ap (λ (h : Header). h.members) (c.load_header-h.ensures ∙ header_is r w.shaped w.holds)) in

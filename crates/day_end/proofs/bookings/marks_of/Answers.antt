@@ -5,6 +5,5 @@ use Rattle.day_end.proofs.bookings.marks_of.Goals as goal
 pub returns : goal.returns
 unfolding tab
 returns c =
-    let third = c.before.before.before in
     rw (c.mark_at-first.ensures, c.mark_at-second.ensures, c.mark_at-third.ensures)
     (rw (c.mark_at-fourth.ensures, c.mark_at-fifth.ensures, c.mark_at-sixth.ensures))

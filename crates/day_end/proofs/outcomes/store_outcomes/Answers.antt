@@ -27,11 +27,10 @@ outcome_at-o-requires c =
     (record { rows = _; whole = c.loop-k.invariant.1 p.rows p.whole; known = priceable-still _ p.known }, omega arith)
 
 pub store_outcome-requires : goal.store_outcome-requires
-store_outcome-requires c = (long c.before.before.before.before, omega arith)
+store_outcome-requires c = (long (goal.at.store_outcome-requires c).At-loop-k, omega arith)
 
 pub loop-k-preserved : goal.loop-k-preserved
 loop-k-preserved c =
-    let store = c.before.before.before in
     let l = c.loop-k in (
       omega arith,
       λ r w.
@@ -43,13 +42,13 @@ loop-k-preserved c =
     )
 
 pub shape_of-counts : goal.shape_of-counts
-shape_of-counts c = let p = c.requires in (long c.before).counts ∙ sym (memory-long _ p.whole.shaped p.whole.holds).counts
+shape_of-counts c = let p = c.requires in (long (goal.at.shape_of-counts c).At-loop-k).counts ∙ sym (memory-long _ p.whole.shaped p.whole.holds).counts
 
 pub shape_of-money : goal.shape_of-money
-shape_of-money c = let p = c.requires in (long c.before).money ∙ sym (memory-long _ p.whole.shaped p.whole.holds).money
+shape_of-money c = let p = c.requires in (long (goal.at.shape_of-money c).At-loop-k).money ∙ sym (memory-long _ p.whole.shaped p.whole.holds).money
 
 pub returns : goal.returns
-returns c =
+returns c r =
     let l = c.loop-k in
     subst (λ z. Whole l.counts l.money (priced z r)) (back c.ranges.final_rate)
     (priced-end _ r w.shaped l.k (omega arith) (l.invariant.1 r w))

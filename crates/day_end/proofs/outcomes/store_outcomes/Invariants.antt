@@ -12,7 +12,7 @@ use Rattle.day_end.specs.TurnLaws.{priced_to, priceable-still, priced-step, pric
 use Rattle.day_end.proofs.outcomes.store_outcomes.Given as goal
 
 abbrev pub invariant-loop-k : goal.invariant-loop-k
-invariant-loop-k l = (l.k ≤ 6) × Turns l.initial.counts l.initial.money l.counts l.money (priced_to (to_z w64 l.final_rate) l.k)
+invariant-loop-k l = (l.k ≤ 6) × Turns l.initial.counts l.initial.money l.counts l.money (priced_to (l.final_rate) l.k)
 
 abbrev pub decreases-loop-k : goal.decreases-loop-k
 decreases-loop-k l = 6 - l.k

@@ -24,12 +24,11 @@ store_contract-requires c = (c.loop-k.invariant.1.0, omega arith)
 
 pub loop-k-preserved : goal.loop-k-preserved
 loop-k-preserved c =
-    let store = c.before.before.before in
     let l = c.loop-k in
     let ended = c.args.ended in
     let long : Long _ _ = record {
       counts = c.store_contract.auto.counts ∙ l.invariant.1.0.counts;
-      money = c.store_contract.auto.money.0 ∙ l.invariant.1.0.money;
+      money = c.store_contract.auto.money ∙ l.invariant.1.0.money;
     } in (
       omega arith,
       (
@@ -50,6 +49,6 @@ pub shape_of-money : goal.shape_of-money
 shape_of-money c = c.loop-k.invariant.1.0.money ∙ sym c.requires.money
 
 pub returns : goal.returns
-returns c =
+returns c r =
     let l = c.loop-k in
     renewed-end c.args.ended r w.shaped l.k (omega arith) (l.invariant.1.1 r w)

@@ -8,5 +8,4 @@ overflow_sub-listed c = omega (arith, byte-most c.args.ended)
 
 pub returns : goal.returns
 returns c =
-    let store = c.before.before in
     rw (c.store_header.ensures, c.load_header-h.ensures, listed-is c.args.ended)

@@ -26,19 +26,19 @@ use Rattle.dealing.proofs.parties.parties_of.Goals.{After-is_open, Else-not-in_h
 
 -- ---- from a place back to the one before it where something was found
 abbrev start : After-is_open → Start
-start c = c.before.before
+start c = (goal.at.After-is_open c).Start
 
 abbrev before-k : In-At → Else-not-is_open
-before-k c = c.before.before.before.before
+before-k c = (goal.at.In-At c).Else-not-is_open
 
 abbrev before-i : In-At-find_account → In-At
-before-i c = c.before.before.before.before
+before-i c = (goal.at.In-At-find_account c).In-At
 
 abbrev before-j : In-At-find_account-2 → In-At-find_account
-before-j c = c.before.before.before.before
+before-j c = (goal.at.In-At-find_account-2 c).In-At-find_account
 
 abbrev start-k : In-At → Start
-start-k c = start (before-k c).before
+start-k c = start (goal.at.Else-not-is_open (before-k c)).After-is_open
 
 abbrev start-i : In-At-find_account → Start
 start-i c = start-k (before-i c)
@@ -56,103 +56,98 @@ Of b m s = Holds s.args.counts.now m (rows_of b)
 module _ {b : Book} {m : List ℤ} (g : Kept b) where
   header : (s : Start) → Of b m s → s.args.h ≡ header_row b
   header s h = s.requires.header ∙ header_is (rows_of b) (rows-shaped g) h
-  open_is : (c : After-is_open) → Of b m start → is_open b.today.point ≡ c.is_open.result
-  open_is c h = sym (c.is_open.ensures ∙ ap (λ (x : Header). eqb x.point 2 || eqb x.point 3) (header start h))
-  live : (c : Else-not-is_open) → Of b m start → is_open b.today.point ≡ true
-  live c h = open_is c.before h ∙ not-false _ c.if-not-is_open.false-raw
-  row-k : (c : In-At) → Of b m start-k → Stands b.contracts.codes (deal start-k).code c.in-At.k
+
+  open_is : (c : After-is_open) → Of b m (start c) → is_open b.today.point ≡ c.is_open.result
+  open_is c h = sym (c.is_open.ensures ∙ ap (λ (x : Header). eqb x.point 2 || eqb x.point 3) (header (start c) h))
+
+  live : (c : Else-not-is_open) → Of b m (start (goal.at.Else-not-is_open c).After-is_open) → is_open b.today.point ≡ true
+  live c h = open_is (goal.at.Else-not-is_open c).After-is_open h ∙ not-false _ c.if-not-is_open.false-raw
+
+  row-k : (c : In-At) → Of b m (start-k c) → Stands b.contracts.codes (deal (start-k c)).code c.in-At.k
   row-k c h = code-at g h _ _ (sym c.find_contract.ensures ∙ c.in-At.is)
-  row-i : (c : In-At-find_account) → Of b m start-i → Stands b.accounts.members (deal start-i).buyer c.in-At-find_account.i
+
+  row-i : (c : In-At-find_account) → Of b m (start-i c) → Stands b.accounts.members (deal (start-i c)).buyer c.in-At-find_account.i
   row-i c h = number-at g h _ _ (sym c.find_account.ensures ∙ c.in-At-find_account.is)
-  row-j : (c : In-At-find_account-2) → Of b m start-j → Stands b.accounts.members (deal start-j).seller c.in-At-find_account-2.j
+
+  row-j : (c : In-At-find_account-2) → Of b m (start-j c) → Stands b.accounts.members (deal (start-j c)).seller c.in-At-find_account-2.j
   row-j c h = number-at g h _ _ (sym c.find_account-2.ensures ∙ c.in-At-find_account-2.is)
-  between : (c : Else-t) → let p = c.before.before in Of b m start-j
-      → Between b (deal start-j) (before-i before-j).before.k.given.0.0 before-j.before.i.given.0.0 c.in-At-find_account-2.j
-  between c h = let p = c.before.before in record {
-    live = live (before-k (before-i before-j)) h;
-    contract = row-k (before-i before-j) h;
-    buyer = row-i before-j h;
-    seller = row-j p h;
+
+  between : (c : Else-t) → Of b m (start-j (goal.at.Else-t c).In-At-find_account-2)
+      → Between b (deal (start-j (goal.at.Else-t c).In-At-find_account-2)) (before-i (before-j (goal.at.Else-t c).In-At-find_account-2)).before.k.given.0.0 (before-j (goal.at.Else-t c).In-At-find_account-2).in-At-find_account.i c.in-At-find_account-2.j
+  between c h = record {
+    live = live (before-k (before-i (before-j (goal.at.Else-t c).In-At-find_account-2))) h;
+    contract = row-k (before-i (before-j (goal.at.Else-t c).In-At-find_account-2)) h;
+    buyer = row-i (before-j (goal.at.Else-t c).In-At-find_account-2) h;
+    seller = row-j (goal.at.Else-t c).In-At-find_account-2 h;
     apart = ne_eqb _ _ c.if-t.false;
   }
 
 pub returns-then-not-is_open : goal.returns-then-not-is_open
-returns-then-not-is_open c = λ b m g h. shut b (deal start) (open_is g c.before h ∙ not-true _ c.if-not-is_open.true-raw)
+returns-then-not-is_open c = λ b m g h. shut b (deal (start (goal.at.returns-then-not-is_open c).After-is_open)) (open_is g (goal.at.returns-then-not-is_open c).After-is_open h ∙ not-true _ c.if-not-is_open.true-raw)
 
 pub returns-in_default : goal.returns-in_default
 returns-in_default c = λ b m g h.
-    let t = deal start in
-    unlisted b t (live g c.before h) (code-none g h t.code (sym c.find_contract.ensures ∙ c.in_default.is))
+    let t = deal (start (goal.at.returns-in_default c).After-is_open) in
+    unlisted b t (live g (goal.at.returns-in_default c).Else-not-is_open h) (code-none g h t.code (sym c.find_contract.ensures ∙ c.in_default.is))
 
 pub returns-in_default-find_account : goal.returns-in_default-find_account
 returns-in_default-find_account c = λ b m g h.
-    let found = c.before.before in
-    let p = found.before in
-    let t = deal start-k in
-    no-buyer b t (live g before-k h) (has_here (row-k g p h))
+    let t = deal (start-k (goal.at.returns-in_default-find_account c).In-At) in
+    no-buyer b t (live g (before-k (goal.at.returns-in_default-find_account c).In-At) h) (has_here (row-k g (goal.at.returns-in_default-find_account c).In-At h))
     (member-none g h t.buyer (sym c.find_account.ensures ∙ c.in_default-find_account.is))
 
 pub returns-in_default-find_account-2 : goal.returns-in_default-find_account-2
 returns-in_default-find_account-2 c = λ b m g h.
-    let found = c.before.before in
-    let p = found.before in
-    let t = deal start-i in
-    no-seller b t (live g (before-k before-i) h) (has_here (row-k g before-i h)) (has_here (row-i g p h))
+    let t = deal (start-i (goal.at.returns-in_default-find_account-2 c).In-At-find_account) in
+    no-seller b t (live g (before-k (before-i (goal.at.returns-in_default-find_account-2 c).In-At-find_account)) h) (has_here (row-k g (before-i (goal.at.returns-in_default-find_account-2 c).In-At-find_account) h)) (has_here (row-i g (goal.at.returns-in_default-find_account-2 c).In-At-find_account h))
     (member-none g h t.seller (sym c.find_account-2.ensures ∙ c.in_default-find_account-2.is))
 
 pub returns-then-t : goal.returns-then-t
 returns-then-t c = λ b m g h.
-    let p = c.before.before in
-    let q = before-j in
-    one-party b (deal start-j) (live g (before-k (before-i q)) h) (has_here (row-k g (before-i q) h)) (has_here (row-i g q h))
-    (has_here (row-j g p h)) (eq-eqb _ _ c.if-t.true)
+    let q = before-j (goal.at.returns-then-t c).In-At-find_account-2 in
+    one-party b (deal (start-j (goal.at.returns-then-t c).In-At-find_account-2)) (live g (before-k (before-i q)) h) (has_here (row-k g (before-i q) h)) (has_here (row-i g q h))
+    (has_here (row-j g (goal.at.returns-then-t c).In-At-find_account-2 h)) (eq-eqb _ _ c.if-t.true)
 
 -- ---- the hours, the clock and the number of trades
 abbrev apart : Else-not-in_hours → Else-t
-apart c = c.before.before
+apart c = (goal.at.Else-not-in_hours c).Else-t
 
 abbrev deal-of : Else-not-in_hours → Trade
-deal-of c = deal (start-j (apart c).before.before)
+deal-of c = deal (start-j (goal.at.Else-t (apart c)).In-At-find_account-2)
 
 abbrev in-time : Else-t-h → Else-not-in_hours
-in-time c = c.before.before.before
+in-time c = (goal.at.Else-t-h c).Else-not-in_hours
 
 hours : (c : Else-not-in_hours) → in_hours (deal-of c).time ≡ true
 hours c = sym c.in_hours.ensures ∙ not-false _ c.if-not-in_hours.false-raw
 
 module _ {b : Book} {m : List ℤ} (g : Kept b) where
-  clock : (c : Else-t-h) → Of b m (start-j (apart (in-time c)).before.before) → leb b.today.clock (deal-of (in-time c)).time ≡ true
+  clock : (c : Else-t-h) → Of b m (start-j (goal.at.Else-t (apart (in-time c))).In-At-find_account-2) → leb b.today.clock (deal-of (in-time c)).time ≡ true
   clock c h =
-      let e = ap (λ (x : Header). x.clock) (header g (start-j (apart (in-time c)).before.before) h) in
+      let e = ap (λ (x : Header). x.clock) (header g (start-j (goal.at.Else-t (apart (in-time c))).In-At-find_account-2) h) in
       le-leb b.today.clock (deal-of (in-time c)).time (omega (arith, e, c.if-t-h.false))
 
 pub returns-then-not-in_hours : goal.returns-then-not-in_hours
 returns-then-not-in_hours c = λ b m g h.
-    let p = c.before.before in
-    out-of-hours b (deal start-j) (between g p h) (sym c.in_hours.ensures ∙ not-true _ c.if-not-in_hours.true-raw)
+    out-of-hours b (deal (start-j (goal.at.returns-then-not-in_hours c).In-At-find_account-2)) (between g (goal.at.returns-then-not-in_hours c).Else-t h) (sym c.in_hours.ensures ∙ not-true _ c.if-not-in_hours.true-raw)
 
 pub returns-then-t-h : goal.returns-then-t-h
-returns-then-t-h c =
-    let hours : in_hours deal-of.time ≡ true =
-        sym c.in_hours.ensures ∙ not-false _ c.if-not-in_hours.false-raw in
-    λ b m g h.
-    let e = ap (λ (x : Header). x.clock) (header g (start-j apart.before.before) h) in
-    too-early b deal-of (between g apart h) hours (lt-leb b.today.clock deal-of.time (omega (arith, e, c.if-t-h.true)))
+returns-then-t-h c = λ b m g h.
+    let e = ap (λ (x : Header). x.clock) (header g (start-j (goal.at.Else-t (apart (goal.at.returns-then-t-h c).Else-not-in_hours)).In-At-find_account-2) h) in
+    too-early b (deal-of (goal.at.returns-then-t-h c).Else-not-in_hours) (between g (apart (goal.at.returns-then-t-h c).Else-not-in_hours) h) (hours (goal.at.returns-then-t-h c).Else-not-in_hours) (lt-leb b.today.clock (deal-of (goal.at.returns-then-t-h c).Else-not-in_hours).time (omega (arith, e, c.if-t-h.true)))
 
 pub returns-then-h-ge10000 : goal.returns-then-h-ge10000
 returns-then-h-ge10000 c = λ b m g h.
-    let q = c.before.before in
-    let p = in-time q in
-    let e = ap (λ (x : Header). x.trades) (header g (start-j (apart p).before.before) h) in
-    full b (deal-of p) (between g (apart p) h) (hours p) (clock g q h) (omega (arith, e, c.if-h-ge10000.true))
+    let p = in-time (goal.at.returns-then-h-ge10000 c).Else-t-h in
+    let e = ap (λ (x : Header). x.trades) (header g (start-j (goal.at.Else-t (apart p)).In-At-find_account-2) h) in
+    full b (deal-of p) (between g (apart p) h) (hours p) (clock g (goal.at.returns-then-h-ge10000 c).Else-t-h h) (omega (arith, e, c.if-h-ge10000.true))
 
 pub returns : goal.returns
 returns c = λ b m g h.
-    let q = c.before.before in
-    let p = in-time q in
-    let e = ap (λ (x : Header). x.trades) (header g (start-j (apart p).before.before) h) in record {
+    let p = in-time (goal.at.returns c).Else-t-h in
+    let e = ap (λ (x : Header). x.trades) (header g (start-j (goal.at.Else-t (apart p)).In-At-find_account-2) h) in record {
       between = between g (apart p) h;
       hours = hours p;
-      clock = clock g q h;
+      clock = clock g (goal.at.returns c).Else-t-h h;
       room = omega (arith, e, c.if-h-ge10000.false);
     }

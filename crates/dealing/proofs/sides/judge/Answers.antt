@@ -3,5 +3,4 @@ use Rattle.dealing.proofs.sides.judge.Goals as goal
 
 pub returns : goal.returns
 returns c =
-    let first = c.before.before in
     rw (c.if-buyer.false, c.if-seller.false, c.weigh.ensures, c.side_of-buys.ensures, c.side_of-sells.ensures)

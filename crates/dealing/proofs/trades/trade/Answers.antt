@@ -22,20 +22,16 @@ parties_of-requires c =
 
 pub trade_between-requires : goal.trade_between-requires
 trade_between-requires c =
-    let row = c.before.before.before in
-    let found = row.before.before in
-    let head = found.before.before in
     let h = c.requires.0 in
     record {
       sound = h;
       header = c.load_header-h.ensures ∙ sound-header h;
       range = c.requires.1;
-      ready = rw c.in-Found.is at (c.parties_of.ensures (book c.before.before.before.before.before.before) c.args.money.now (sound-kept h) (sound-holds h));
+      ready = rw c.in-Found.is at (c.parties_of.ensures (book (goal.at.trade_between-requires c).Start) c.args.money.now (sound-kept h) (sound-holds h));
     }
 
 pub returns-in-Refused : goal.returns-in-Refused
 returns-in-Refused c =
-    let found = c.before.before.before in
     let h = c.requires.0 in
     refused-traded h
-    (rw c.in-Refused.is at (c.parties_of.ensures (book c.before.before.before.before.before) c.args.money.now (sound-kept h) (sound-holds h)))
+    (rw c.in-Refused.is at (c.parties_of.ensures (book (goal.at.returns-in-Refused c).Start) c.args.money.now (sound-kept h) (sound-holds h)))

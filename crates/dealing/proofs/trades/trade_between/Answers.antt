@@ -44,52 +44,59 @@ rate s = arg s.requires.range.rate tt
 
 -- ---- what is loaded, and the sides after the trade
 abbrev start : After-load_margins-margins → Start
-start c = c.before.before.before.before.before.before.before.before.before.before.before
+start c = (goal.at.After-load_margins-margins c).Start
 
-bought : (c : After-with_lots-bought) → let s = start in
+bought : (c : After-with_lots-bought) → let s = start (goal.at.After-with_lots-bought c).After-load_margins-margins in
     c.with_lots-bought.result ≡ account_row (traded (book s) (deal s)) s.args.t.buyer
 bought c =
-    let s = start in
+    let s = start (goal.at.After-with_lots-bought c).After-load_margins-margins in
     c.with_lots-bought.ensures
     ∙ ap₂ (λ l r. with_holdings c.load_account-buyer.result (with_trade c.load_account-buyer.result.holdings s.args.k l r))
     (lots s).eq (rate s).eq
-    ∙ moved-is s.pre s.pre.ready.between.buyer c.load_account-buyer.ensures (buyer-lots (sound-kept s.pre.sound) s.pre.ready.between)
+    ∙ moved-is s.requires s.requires.ready.between.buyer c.load_account-buyer.ensures (buyer-lots (sound-kept s.requires.sound) s.requires.ready.between)
 
-sold : (c : After-with_lots-sold) → let s = start in
+sold : (c : After-with_lots-sold) → let s = start (goal.at.After-with_lots-sold c).After-load_margins-margins in
     c.with_lots-sold.result ≡ account_row (traded (book s) (deal s)) s.args.t.seller
 sold c =
-    let s = start in
+    let s = start (goal.at.After-with_lots-sold c).After-load_margins-margins in
     c.with_lots-sold.ensures
     ∙ ap₂ (λ l r. with_holdings c.load_account-seller.result (with_trade c.load_account-seller.result.holdings s.args.k l r))
     (less s).eq (rate s).eq
-    ∙ moved-is s.pre s.pre.ready.between.seller c.load_account-seller.ensures (seller-lots (sound-kept s.pre.sound) s.pre.ready.between)
+    ∙ moved-is s.requires s.requires.ready.between.seller c.load_account-seller.ensures (seller-lots (sound-kept s.requires.sound) s.requires.ready.between)
 
 margins : (c : After-load_margins-margins) → c.load_margins-margins.result ≡ margins_of (book (start c))
 margins c = let d = (start c).requires in c.load_margins-margins.ensures ∙ margins-are (sound-kept d.sound) d.ready.between.live (sound-holds d.sound)
 
 -- ---- what they answer
 abbrev judging : After-judge-answer → After-load_margins-margins
-judging c = c.before.before.before
+judging c = (goal.at.After-judge-answer c).After-load_margins-margins
 
 answer : (c : After-judge-answer) → let s = start (judging c) in Answers (book s) (deal s) c.judge-answer.result
 answer c =
     let m = judging c in
-    let d = (start m).pre in
+    let d = (start m).requires in
     answers d c.judge-answer.ensures (margins m)
-    (m.before.before.before.before.before.load-account.ensures ∙ account-in d d.ready.between.buyer)
-    bought
-    (m.before.before.load-account2.ensures ∙ account-in d d.ready.between.seller)
-    sold
+    (m.load_account-buyer.ensures ∙ account-in d d.ready.between.buyer)
+    (bought (goal.at.After-judge-answer c).After-with_lots-bought)
+    (m.load_account-seller.ensures ∙ account-in d d.ready.between.seller)
+    (sold (goal.at.After-judge-answer c).After-with_lots-sold)
 
 -- ---- what is stored
 abbrev accepted : After-store_account → After-judge-answer
-accepted c = c.before.before.before.before.before
+accepted c = (goal.at.After-store_account c).After-judge-answer
 
 abbrev first-stored : After-store_account-2 → After-store_account
-first-stored c = c.before.before.before.before.before.before
+first-stored c = (goal.at.After-store_account-2 c).After-store_account
 
 abbrev start-stored : After-store_account-2 → Start
 start-stored c = start (judging (accepted (first-stored c)))
+
+both : (c : After-store_account-2) → Holds c.store_account-2.new.counts c.store_account-2.new.1.0 (sides (start-stored c).requires)
+both c =
+    let first = first-stored c in
+    let q = accepted first in
+    stored (start-stored c).requires (bought (goal.at.After-judge-answer q).After-with_lots-bought) (sold (goal.at.After-judge-answer q).After-with_lots-sold)
+    first.store_account.ensures.0 first.store_account.ensures.1 c.store_account-2.ensures.0 c.store_account-2.ensures.1
 
 pub load_account-buyer-requires : goal.load_account-buyer-requires
 load_account-buyer-requires c =
@@ -106,93 +113,58 @@ load_margins-margins-requires c =
 pub with_lots-bought-requires : goal.with_lots-bought-requires
 with_lots-bought-requires c =
     let s = start c in (
-      account-sound s.pre s.pre.ready.between.buyer c.load_account-buyer.ensures,
-      (row-k s.pre, (passed (lots s), passed (rate s))),
+      account-sound s.requires s.requires.ready.between.buyer c.load_account-buyer.ensures,
+      (row-k s.requires, (passed (lots s), passed (rate s))),
     )
 
 pub overflow_sub-lots : goal.overflow_sub-lots
-overflow_sub-lots c = fits (sub (now (lit (pos 0))) (lots start)) tt
+overflow_sub-lots c = fits (sub (now (lit (pos 0))) (lots (start (goal.at.overflow_sub-lots c).After-load_margins-margins))) tt
 
 pub with_lots-sold-requires : goal.with_lots-sold-requires
 with_lots-sold-requires c =
-    let s = start in (
-      account-sound s.pre s.pre.ready.between.seller c.load_account-seller.ensures,
-      (row-k s.pre, (passed (less s), passed (rate s))),
+    let s = start (goal.at.with_lots-sold-requires c).After-load_margins-margins in (
+      account-sound s.requires s.requires.ready.between.seller c.load_account-seller.ensures,
+      (row-k s.requires, (passed (less s), passed (rate s))),
     )
 
 pub judge-answer-requires : goal.judge-answer-requires
 judge-answer-requires c =
-    let margins : c.load_margins-margins.result ≡ margins_of (book start) =
-        let d = start.requires in c.load_margins-margins.ensures ∙ margins-are (sound-kept d.sound) d.ready.between.live (sound-holds d.sound) in
-    let s = start in
-    let buyer = account-sound s.pre s.pre.ready.between.buyer c.load_account-buyer.ensures in
-    let seller = account-sound s.pre s.pre.ready.between.seller c.load_account-seller.ensures in (
+    let s = start (goal.at.judge-answer-requires c).After-load_margins-margins in
+    let buyer = account-sound s.requires s.requires.ready.between.buyer c.load_account-buyer.ensures in
+    let seller = account-sound s.requires s.requires.ready.between.seller c.load_account-seller.ensures in (
       moved s.args.k buyer (passed (lots s)) (passed (rate s)) c.with_lots-bought.ensures,
       (
         moved s.args.k seller (passed (less s)) (passed (rate s)) c.with_lots-sold.ensures,
-        (row-k s.pre, rw margins (margins-sound (sound-kept s.pre.sound) s.pre.ready.between.live)),
+        (row-k s.requires, rw (margins (goal.at.judge-answer-requires c).After-load_margins-margins) (margins-sound (sound-kept s.requires.sound) s.requires.ready.between.live)),
       ),
     )
 
 pub returns-in_default : goal.returns-in_default
 returns-in_default c =
-    let bought : let s = start in
-    c.with_lots-bought.result ≡ account_row (traded (book s) (deal s)) s.args.t.buyer =
-        let s = start in
-    c.with_lots-bought.ensures
-    ∙ ap₂ (λ l r. with_holdings c.load_account-buyer.result (with_trade c.load_account-buyer.result.holdings s.args.k l r))
-    (lots s).eq (rate s).eq
-    ∙ moved-is s.pre s.pre.ready.between.buyer c.load_account-buyer.ensures (buyer-lots (sound-kept s.pre.sound) s.pre.ready.between) in
-    let sold : let s = start in
-    c.with_lots-sold.result ≡ account_row (traded (book s) (deal s)) s.args.t.seller =
-        let s = start in
-    c.with_lots-sold.ensures
-    ∙ ap₂ (λ l r. with_holdings c.load_account-seller.result (with_trade c.load_account-seller.result.holdings s.args.k l r))
-    (less s).eq (rate s).eq
-    ∙ moved-is s.pre s.pre.ready.between.seller c.load_account-seller.ensures (seller-lots (sound-kept s.pre.sound) s.pre.ready.between) in
-    let answer : let s = start judging in Answers (book s) (deal s) c.judge-answer.result =
-        let m = judging in
-    let d = (start m).pre in
-    answers d c.judge-answer.ensures (margins m)
-    (m.before.before.before.before.before.load-account.ensures ∙ account-in d d.ready.between.buyer)
-    bought
-    (m.before.before.load-account2.ensures ∙ account-in d d.ready.between.seller)
-    sold in
-    let s = start judging in
+    let s = start (judging (goal.at.returns-in_default c).After-judge-answer) in
     let told = c.in_default.is in
     subst (λ r. Traded s.args.counts.now s.args.money.now (deal s) r s.args.counts.now s.args.money.now) (sym told)
-    (refused-traded s.pre.sound (subst (Answers (book s) (deal s)) told answer))
+    (refused-traded s.requires.sound (subst (Answers (book s) (deal s)) told (answer (goal.at.returns-in_default c).After-judge-answer)))
 
 pub store_account-requires : goal.store_account-requires
 store_account-requires c =
-    let d = (start judging).requires in (deals-long d, row_below d d.ready.between.buyer)
+    let d = (start (judging (goal.at.store_account-requires c).After-judge-answer)).requires in (deals-long d, row_below d d.ready.between.buyer)
 
 pub store_account-requires-2 : goal.store_account-requires-2
 store_account-requires-2 c =
-    let d = (start (judging accepted)).requires in
+    let d = (start (judging (accepted (goal.at.store_account-requires-2 c).After-store_account))).requires in
     let same = c.store_account.auto in
     (record { counts = same.0 ∙ (deals-long d).counts; money = same.1.0 ∙ (deals-long d).money }, row_below d d.ready.between.seller)
 
 pub write_trade-requires : goal.write_trade-requires
 write_trade-requires c =
-    let both : Holds c.store_account-2.new.0 c.store_account-2.new.1.0 (sides start-stored.requires) =
-        let first = first-stored in
-    let q = accepted first in
-    stored start-stored.requires (bought q.before.before) (sold q.before)
-    first.store-account.ensures.0 first.store-account.ensures.1 c.store_account-2.ensures.0 c.store_account-2.ensures.1 in
-    let d = start-stored.requires in
-    sides-writable d both
+    let d = (start-stored (goal.at.write_trade-requires c).After-store_account-2).requires in
+    sides-writable d (both (goal.at.write_trade-requires c).After-store_account-2)
 
 pub returns : goal.returns
 returns c =
-    let both : Holds c.store_account-2.new.0 c.store_account-2.new.1.0 (sides start-stored.requires) =
-        let first = first-stored in
-    let q = accepted first in
-    stored start-stored.requires (bought q.before.before) (sold q.before)
-    first.store-account.ensures.0 first.store-account.ensures.1 c.store_account-2.ensures.0 c.store_account-2.ensures.1 in
-    let w = c.before.before.before in
-    let s = start-stored in
-    let told = first-stored.before.before.before.enum_told.given.1 in
-    subst (λ r. Traded s.args.counts.now s.args.money.now (deal s) r c.write_trade.new.0 c.write_trade.new.1.0) (sym told)
-    (accepted-traded s.pre.sound (subst (Answers (book s) (deal s)) told (answer (accepted first-stored)))
-    (all-written s.pre both c.write_trade.ensures))
+    let s = start-stored (goal.at.returns c).After-store_account-2 in
+    let told = (first-stored (goal.at.returns c).After-store_account-2).in-Accepted.is in
+    subst (λ r. Traded s.args.counts.now s.args.money.now (deal s) r c.write_trade.new.counts c.write_trade.new.1.0) (sym told)
+    (accepted-traded s.requires.sound (subst (Answers (book s) (deal s)) told (answer (accepted (first-stored (goal.at.returns c).After-store_account-2))))
+    (all-written s.requires (both (goal.at.returns c).After-store_account-2) c.write_trade.ensures))

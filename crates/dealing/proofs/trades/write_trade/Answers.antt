@@ -14,7 +14,7 @@ use Rattle.dealing.proofs.trades.write_trade.Goals as goal
 use Rattle.dealing.proofs.trades.write_trade.Goals.{After-with_trade-x, Start}
 
 abbrev start : After-with_trade-x → Start
-start c = c.before.before.before.before.before.before
+start c = (goal.at.After-with_trade-x c).Start
 
 abbrev row : Start → Contract
 row s = traded_row (contract_at s.args.counts.now s.args.money.now s.args.k) (trade_of s.args.t)
@@ -36,11 +36,9 @@ with_trade-x-requires c =
 
 pub returns : goal.returns
 returns c =
-    let stored = c.before.before.before in
-    let headed = stored.before.before.before.before.before in
-    let s = start c.before.before.before.before.before.before.before.before.before.before.before.before in
+    let s = start (goal.at.returns c).After-with_trade-x in
     record {
       counts = c.store_contract.ensures.0
-          ∙ ap₂ (λ l x. with_contract_counts l s.args.k x) c.store_header.ensures (row_is c.before.before.before.before.before.before.before.before.before.before.before.before);
-      money = c.store_contract.ensures.1 ∙ ap (with_contract_money s.args.money.now s.args.k) (row_is c.before.before.before.before.before.before.before.before.before.before.before.before);
+          ∙ ap₂ (λ l x. with_contract_counts l s.args.k x) c.store_header.ensures (row_is (goal.at.returns c).After-with_trade-x);
+      money = c.store_contract.ensures.1 ∙ ap (with_contract_money s.args.money.now s.args.k) (row_is (goal.at.returns c).After-with_trade-x);
     }

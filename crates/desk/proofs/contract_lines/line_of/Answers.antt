@@ -18,55 +18,62 @@ use Rattle.trail.specs.PriceLaws.{sum_fits}
 use Rattle.desk.specs.Lines.{rate_in}
 use Rattle.desk.specs.LineLaws.{line-parts, worth-parts}
 use Rattle.desk.proofs.contract_lines.line_of.Goals as goal
-use Rattle.desk.proofs.contract_lines.line_of.Goals.{After-amounts-1, After-worth-carried, In-At-2, Start}
+use Rattle.desk.proofs.contract_lines.line_of.Goals.{After-amounts-1, After-worth-carried, In-At, Start}
 
 abbrev after : Start → Book
 after s = view s.args.counts.now s.args.money.now
 
 -- a contract that was settled has what the close found
-shown : (c : In-At-2) →
-    c.in-At.settled ≡ (after c.before.before.before.before).results.settled c.args.code
+shown : (c : In-At) →
+    c.in-At.settled ≡ (after (goal.at.In-At c).Start).results.settled c.args.code
 shown c =
-    let e : At c.in-At.settled ≡ At ((after c.before.before.before.before).results.settled c.args.code) =
+    let e : At c.in-At.settled ≡ At ((after (goal.at.In-At c).Start).results.settled c.args.code) =
     sym c.in-At.is ∙ c.rate_of.ensures ∙ when_true _ _ c.requires.sound.1 in
     cc
 
-rate-within : (c : In-At-2) → Within 100000 c.in-At.settled.rate
+rate-within : (c : In-At) → Within 100000 c.in-At.settled.rate
 rate-within c =
     subst (λ (x : Settled). Within 100000 x.rate) (sym (shown c)) c.requires.within.0.1.1
 
 -- what was carried over earns
 module _ (c : After-worth-carried) where
-  abbrev found : In-At-2
+  abbrev found : In-At
   found = c.before.before.before.before
+
   abbrev start : Start
   start = found.before.before.before.before
+
   carried-is : c.worth-carried.result ≡ worth_at (rate_in (after start) start.args.code) (record { lots = start.args.net; rate = start.args.previous })
   carried-is =
       c.worth-carried.ensures
       ∙ worth-parts (arg start.pre.1.0.0 tt).eq (arg start.pre.1.0.1.0 tt).eq
       ((arg (rate-within found) tt).eq ∙ ap (λ (x : Settled). x.rate) (shown found))
+
   carried-within : Within 1000000000000 c.worth-carried.result
   carried-within =
       subst (Within 1000000000000) (sym carried-is)
       (within-* start.pre.1.0.0 (within-* (lit (pos 250)) (within-- start.pre.1.0.1.1 start.pre.1.0.1.0)))
+
 -- what the trades earn, and the sum
 module _ (c : After-amounts-1) where
   abbrev worth : After-worth-carried
   worth = c.before.before.before
+
   priced : let a = (start worth).args in
-      Priced a.labels.now a.amounts.now a.used a.code (rate_in (after (start worth)) a.code) c.price.result c.price.new.1.0
+      Priced a.labels.now a.amounts.now a.used a.code (rate_in (after (start worth)) a.code) c.price-made.result c.price-made.new.1.0
   priced =
       let a = (start worth).args in
-      subst (λ (z : ℤ). Priced a.labels.now a.amounts.now a.used a.code z c.price.result c.price.new.1.0)
+      subst (λ (z : ℤ). Priced a.labels.now a.amounts.now a.used a.code z c.price-made.result c.price-made.new.1.0)
       ((arg (rate-within (found worth)) tt).eq ∙ ap (λ (x : Settled). x.rate) (shown (found worth)))
-      c.price.ensures
-  made-within : Within 500000000000000 c.price.result
+      c.price-made.ensures
+
+  made-within : Within 500000000000000 c.price-made.result
   made-within =
       let s = start worth in
       let t = s.pre.1.1 in
       sum_fits s.args.code _ s.args.labels.now s.args.amounts.now s.args.used priced t.few s.pre.1.0.1.1 t.modest (le_refl _)
-  abbrev sum : Got 501000000000000 (c.price.result +ℤ worth.worth.result)
+
+  abbrev sum : Got 501000000000000 (c.price-made.result +ℤ worth.worth.result)
   sum = got (add (arg made-within tt) (arg (carried-within worth) tt))
 
 pub returns-in_default : goal.returns-in_default
@@ -77,13 +84,12 @@ returns-in_default c =
 
 pub worth-carried-requires : goal.worth-carried-requires
 worth-carried-requires c =
-    let found = c.before.before.before in
-    (pass c.requires.within.0.0 tt tt, (pass c.requires.within.0.1.0 tt tt, pass (rate-within c.before.before.before) tt tt))
+    (pass c.requires.within.0.0 tt tt, (pass c.requires.within.0.1.0 tt tt, pass (rate-within (goal.at.worth-carried-requires c).In-At) tt tt))
 
 pub price-made-requires : goal.price-made-requires
 price-made-requires c =
-    let t = (start c.before).pre.1.1 in
-    ((t.few, (t.counts-long, t.money-long)), (pass (rate-within (found c.before)) tt tt, t.modest))
+    let t = (start (goal.at.price-made-requires c).After-worth-carried).pre.1.1 in
+    ((t.few, (t.counts-long, t.money-long)), (pass (rate-within (found (goal.at.price-made-requires c).After-worth-carried)) tt tt, t.modest))
 
 pub overflow_add-result : goal.overflow_add-result
 overflow_add-result c = fits (sum c).reads tt

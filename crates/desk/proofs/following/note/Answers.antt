@@ -14,27 +14,26 @@ Unwritten s rows x =
 
 pub note_trade-requires : goal.note_trade-requires
 note_trade-requires c =
-    (c.requires.labels_len, subst (λ x. Notable x (trade_in c.args.fields) c.args.used) c.answer3.given.1 c.requires.notable)
+    (c.requires.labels_len, subst (λ x. Notable x (trade_in c.args.fields) c.args.used) c.in-BothSides.is c.requires.notable)
 
 pub returns-in-Refused : goal.returns-in-Refused
 returns-in-Refused c =
-    subst (Unwritten c.before.before.before.before c.args.used) (sym c.in-Refused.is) (refl, (refl, refl))
-
-pub returns-in-Malformed : goal.returns-in-Malformed
-returns-in-Malformed c =
-    subst (Unwritten c.before.before.before.before c.args.used) (sym c.in-Malformed.is) (refl, (refl, refl))
+    subst (Unwritten (goal.at.returns-in-Refused c).Start c.args.used) (sym c.in-Refused.is) (refl, (refl, refl))
 
 pub returns-in-NotNext : goal.returns-in-NotNext
 returns-in-NotNext c =
-    subst (Unwritten c.before.before.before.before c.args.used) (sym c.enum_told.given.1) (refl, (refl, refl))
+    subst (Unwritten (goal.at.returns-in-NotNext c).Start c.args.used) (sym c.in-NotNext.is) (refl, (refl, refl))
 
 pub returns-in-Done : goal.returns-in-Done
 returns-in-Done c =
-    let noted = c.before.before.before in
-    let a = c.args in
-    subst (λ x. Tabled x a.account (trade_in a.fields) a.labels.now a.amounts.now a.used c.note-trade.new.0 c.note-trade.new.1.0 c.note-trade.result)
-    (sym c.answer3.given.1)
-    c.note-trade.ensures
+    subst (Unwritten (goal.at.returns-in-Done c).Start c.args.used) (sym c.in-Done.is) (refl, (refl, refl))
 
 pub returns-in-BothSides : goal.returns-in-BothSides
-returns-in-BothSides c = subst (Unwritten c.before.before.before.before.before.before.before.before.before.before 0) (sym c.enum-told2.given.1) (refl, (refl, refl))
+returns-in-BothSides c =
+    let a = c.args in
+    subst (λ x. Tabled x a.account (trade_in a.fields) a.labels.now a.amounts.now a.used c.note_trade.new.0 c.note_trade.new.1.0 c.note_trade.result)
+    (sym c.in-BothSides.is)
+    c.note_trade.ensures
+
+pub returns-in-Closed : goal.returns-in-Closed
+returns-in-Closed c = subst (Unwritten (goal.at.returns-in-Closed c).Start 0) (sym c.in-Closed.is) (refl, (refl, refl))

@@ -18,24 +18,24 @@ below s = got (sub (now (lit (pos 0))) (unsigned s.requires.notable.1 tt))
 
 pub returns-then-account-fields : goal.returns-then-account-fields
 returns-then-account-fields c =
-    bought-tabled c.args.account (deal c.before.before.before.before.before.before.before.before.before) c.args.buyer c.args.seller
+    bought-tabled c.args.account (deal (goal.at.returns-then-account-fields c).Start) c.args.buyer c.args.seller
     c.if-account-fields.true
-    (c.row_with-row.ensures ∙ ap (λ (z : ℤ). row_with (deal c.before.before.before.before.before.before.before.before.before) (deal c.before.before.before.before.before.before.before.before.before).seller z c.args.buyer) (unsigned c.requires.notable.1 tt).eq)
+    (c.row_with-row.ensures ∙ ap (λ (z : ℤ). row_with (deal (goal.at.returns-then-account-fields c).Start) (deal (goal.at.returns-then-account-fields c).Start).seller z c.args.buyer) (unsigned c.requires.notable.1 tt).eq)
     c.store_row.ensures
 
 pub overflow_sub-lots : goal.overflow_sub-lots
-overflow_sub-lots c = fits (below c.before.before.before).reads tt
+overflow_sub-lots c = fits (below (goal.at.overflow_sub-lots c).Start).reads tt
 
 pub returns-then-account-fields-2 : goal.returns-then-account-fields-2
 returns-then-account-fields-2 c =
-    sold-tabled c.args.account (deal c.before.before.before.before.before.before.before.before.before.before) c.args.buyer c.args.seller
+    sold-tabled c.args.account (deal (goal.at.returns-then-account-fields-2 c).Start) c.args.buyer c.args.seller
     c.if-account-fields.false
     c.if-account-fields-2.true
     (c.row_with-row-then-account-fields-2.ensures
-    ∙ ap (λ (z : ℤ). row_with (deal c.before.before.before.before.before.before.before.before.before.before) (deal c.before.before.before.before.before.before.before.before.before.before).buyer z c.args.seller) ((kept (below c.before.before.before.before.before.before.before.before.before.before).reads tt).eq ∙ +ℤ_idl (neg_ℤ (pos (deal c.before.before.before.before.before.before.before.before.before.before).lots))))
+    ∙ ap (λ (z : ℤ). row_with (deal (goal.at.returns-then-account-fields-2 c).Start) (deal (goal.at.returns-then-account-fields-2 c).Start).buyer z c.args.seller) ((kept (below (goal.at.returns-then-account-fields-2 c).Start).reads tt).eq ∙ +ℤ_idl (neg_ℤ (pos (deal (goal.at.returns-then-account-fields-2 c).Start).lots))))
     c.store_row-then-account-fields-2.ensures
 
 pub returns : goal.returns
 returns c =
-    other-tabled c.args.account (deal c.before.before.before) c.args.buyer c.args.seller c.args.labels.now c.args.amounts.now c.args.used
+    other-tabled c.args.account (deal (goal.at.returns c).Start) c.args.buyer c.args.seller c.args.labels.now c.args.amounts.now c.args.used
     c.if-account-fields.false c.if-account-fields-2.false

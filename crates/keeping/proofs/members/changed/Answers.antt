@@ -4,8 +4,7 @@ use Rattle.keeping.proofs.members.changed.Goals as goal
 
 pub returns-in-Special : goal.returns-in-Special
 returns-in-Special c =
-    let x = c.known_told-1 in
-    rw (x.given.1, c.with_special.ensures, told x.given.0.0 c.in-Special.known_told-1-own.given.0.1)
+    rw (c.in-Special.is, c.with_special.ensures, told c.in-Special.special c.in-Special.known_told-1-own.given.0.1)
 
 pub returns-in-Coming : goal.returns-in-Coming
 returns-in-Coming c = rw c.in-Coming.is c.with_limits.ensures

@@ -13,7 +13,7 @@ use Rattle.keeping.proofs.members.set.Goals as goal
 use Rattle.keeping.proofs.members.set.Goals.{After-place_of, Start}
 
 abbrev start : After-place_of → Start
-start c = c.before.before.before.before.before.before
+start c = (goal.at.After-place_of c).Start
 
 -- the account's place, by the memory's own header
 found : (c : After-place_of) →
@@ -42,25 +42,21 @@ place_of-requires c =
     ((sound-long s).counts, sound-members s)
 
 pub load_account-a-requires : goal.load_account-a-requires
-load_account-a-requires c = row-there c.before.before c.in-Row.is
+load_account-a-requires c = row-there (goal.at.load_account-a-requires c).After-place_of c.in-Row.is
 
 pub store_account-requires : goal.store_account-requires
 store_account-requires c =
-    row-there c.before.before.before.before.before.before c.in-Row.is
+    row-there (goal.at.store_account-requires c).After-place_of c.in-Row.is
 
 pub returns-in-Refused : goal.returns-in-Refused
 returns-in-Refused c =
-    let a = (start c.before.before).args in
-    change-refused (start c.before.before).requires a.number a.change (found c.before.before) c.in-Refused.is
+    let a = (start (goal.at.returns-in-Refused c).After-place_of).args in
+    change-refused (start (goal.at.returns-in-Refused c).After-place_of).requires a.number a.change (found (goal.at.returns-in-Refused c).After-place_of) c.in-Refused.is
 
 pub returns-in-Row : goal.returns-in-Row
 returns-in-Row c =
-    let done = c.before.before.before in
-    let change = done.before.before.before in
-    let load = change.before.before in
-    let row = load.before.before.before.before in
-    let a = (start c.before.before.before.before.before.before.before.before.before.before.before).args in
-    changed-made (start c.before.before.before.before.before.before.before.before.before.before.before).requires a.number a.change (found c.before.before.before.before.before.before.before.before.before.before.before) c.in-Row.is
+    let a = (start (goal.at.returns-in-Row c).After-place_of).args in
+    changed-made (start (goal.at.returns-in-Row c).After-place_of).requires a.number a.change (found (goal.at.returns-in-Row c).After-place_of) c.in-Row.is
     c.load_account-a.ensures
     (ap (with_holdings c.load_account-a.result) c.changed-a.ensures)
     c.store_account.ensures.0

@@ -16,12 +16,11 @@ load_header-h-requires c = (sound-long c.requires.0).counts
 
 pub returns-then-h-gt0 : goal.returns-then-h-gt0
 returns-then-h-gt0 c =
-    start-late c.requires.0 (settings c.before.before.before.before.before.before) c.load_header-h.ensures c.if-h-gt0.true
+    start-late c.requires.0 (settings (goal.at.returns-then-h-gt0 c).Start) c.load_header-h.ensures c.if-h-gt0.true
 
 pub returns-then-not-is_accepted : goal.returns-then-not-is_accepted
 returns-then-not-is_accepted c =
-    let late = c.before.before in
-    start-unaccepted c.requires.0 (settings c.before.before.before.before.before.before.before.before) c.load_header-h.ensures c.if-h-gt0.false
+    start-unaccepted c.requires.0 (settings (goal.at.returns-then-not-is_accepted c).Start) c.load_header-h.ensures c.if-h-gt0.false
     c.is_accepted.ensures (not-true _ c.if-not-is_accepted.true-raw)
 
 pub store_header-requires : goal.store_header-requires
@@ -29,16 +28,11 @@ store_header-requires c = (sound-long c.requires.0).counts
 
 pub store_exceptions-requires : goal.store_exceptions-requires
 store_exceptions-requires c =
-    let head = c.before.before.before in
     ((subst (λ l. Long l c.args.money.now) (sym c.store_header.ensures) (headed-long c.requires.0 _)).counts, c.requires.1.1)
 
 pub returns : goal.returns
 returns c =
-    let done = c.before.before in
-    let head = done.before.before.before.before in
-    let yes' = head.before.before in
-    let late = yes'.before.before in
-    started-made c.requires.0 (settings c.before.before.before.before.before.before.before.before.before.before.before.before.before.before.before.before) c.load_header-h.ensures c.if-h-gt0.false
+    started-made c.requires.0 (settings (goal.at.returns c).Start) c.load_header-h.ensures c.if-h-gt0.false
     c.is_accepted.ensures
     c.requires.1.1
     (not-false _ c.if-not-is_accepted.false-raw)

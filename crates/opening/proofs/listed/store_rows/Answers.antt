@@ -13,9 +13,8 @@ store_contract-requires c = (c.loop-j.invariant.0, c.loop-j-test.true)
 
 pub loop-j-preserved : goal.loop-j-preserved
 loop-j-preserved c =
-    let t = c.before.before.before in
     let put = c.store_contract in (
-      still-long c.loop-j.invariant.0 put.auto.counts put.auto.money.0,
+      still-long c.loop-j.invariant.0 put.auto.counts put.auto.money,
       putting-more _ _ _ c.requires.1 c.loop-j.invariant.1 _ c.loop-j-test.true
           put.ensures.0
           put.ensures.1,

@@ -30,14 +30,11 @@ overflow_add-i c =
 
 pub loop-i-preserved : goal.loop-i-preserved
 loop-i-preserved c =
-    let t = c.before.before.before in
-    let a = t.before.before.before in
-    let l = a.before.before.before.before.before in
     let did = c.relisted-b.ensures ∙ ap (relisted c.args.places) c.load_account-a.ensures in
     let put = c.store_account in (
       omega arith,
       (
-        still-long c.loop-i.invariant.1.0 put.auto.counts put.auto.money.0,
+        still-long c.loop-i.invariant.1.0 put.auto.counts put.auto.money,
         walks_more _ _ _ c.loop-i.i (λ b h. tab-length _ 6) c.loop-i.invariant.1.1 (omega (arith, c.requires.1)) did put.ensures.0 put.ensures.1,
       ),
     )

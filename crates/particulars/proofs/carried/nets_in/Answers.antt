@@ -6,10 +6,6 @@ use Rattle.particulars.proofs.carried.nets_in.Goals as goal
 
 pub returns : goal.returns
 returns c =
-    let fifth = c.before in
-    let fourth = fifth.before in
-    let third = fourth.before in
-    let second = third.before in
     let h = c.args.h in
     six-same
     (told (before_in h 0) c.struct_told-1.given.0.1)

@@ -6,10 +6,6 @@ use Rattle.particulars.proofs.carried.previous_rates.Goals as goal
 
 pub returns : goal.returns
 returns c =
-    let fifth = c.before in
-    let fourth = fifth.before in
-    let third = fourth.before in
-    let second = third.before in
     let m = c.args.money.now in
     six-same
     (told (previous_at m 0) c.result-1.given)

@@ -15,22 +15,22 @@ use Rattle.dealing.specs.Dealing.{trade_of}
 use Rattle.hours.specs.Searched.{code-at, code-none, number-at, has_here}
 use Rattle.particulars.specs.AskedLaws.{open_is, asked-shut, asked-unlisted, asked-unknown, asked-totals}
 use Rattle.particulars.proofs.proposed.asked.Goals as goal
-use Rattle.particulars.proofs.proposed.asked.Goals.{After-is_open, Else-not-is_open, In-At-2, In-At-find_account-2, Start}
+use Rattle.particulars.proofs.proposed.asked.Goals.{After-is_open, Else-not-is_open, In-At, In-At-find_account, Start}
 
 -- ---- from a place back to the one before it where something was found
 abbrev start : After-is_open → Start
-start c = c.before.before.before
+start c = (goal.at.After-is_open c).Start
 
-abbrev before-k : In-At-2 → Else-not-is_open
-before-k c = c.before.before.before
+abbrev before-k : In-At → Else-not-is_open
+before-k c = (goal.at.In-At c).Else-not-is_open
 
-abbrev before-i : In-At-find_account-2 → In-At-2
-before-i c = c.before.before.before.before
+abbrev before-i : In-At-find_account → In-At
+before-i c = (goal.at.In-At-find_account c).In-At
 
-abbrev start-k : In-At-2 → Start
-start-k c = start (before-k c).before
+abbrev start-k : In-At → Start
+start-k c = start (goal.at.Else-not-is_open (before-k c)).After-is_open
 
-abbrev start-i : In-At-find_account-2 → Start
+abbrev start-i : In-At-find_account → Start
 start-i c = start-k (before-i c)
 
 abbrev book : Start → Book
@@ -43,71 +43,60 @@ deal s = trade_of s.args.t
 open_at : (c : After-is_open) → is_open (book (start c)).today.point ≡ c.is_open.result
 open_at c = open_is (start c).requires.0 c.load_header-h.ensures c.is_open.ensures
 
-live : (c : Else-not-is_open) → is_open (book start).today.point ≡ true
-live c = open_at ∙ not-false _ c.if-not-is_open.false-raw
+live : (c : Else-not-is_open) → is_open (book (start (goal.at.Else-not-is_open c).After-is_open)).today.point ≡ true
+live c = open_at (goal.at.Else-not-is_open c).After-is_open ∙ not-false _ c.if-not-is_open.false-raw
 
-contract : (c : In-At-2) → let s = start-k c in Stands (book s).contracts.codes (deal s).code c.in-At.k
+contract : (c : In-At) → let s = start-k c in Stands (book s).contracts.codes (deal s).code c.in-At.k
 contract c =
     let h = (start-k c).requires.0 in
     code-at (sound-kept h) (sound-holds h) _ _ (sym c.find_contract.ensures ∙ c.in-At.is)
+
+side : (c : In-At-find_account) → let s = start-i c in Stands (book s).accounts.members s.args.number c.in-At-find_account.i
+side c =
+    let h = (start-i c).requires.0 in
+    number-at (sound-kept h) (sound-holds h) _ _ (sym c.find_account.ensures ∙ c.in-At-find_account.is)
 
 pub load_header-h-requires : goal.load_header-h-requires
 load_header-h-requires c = (sound-long c.requires.0).counts
 
 pub returns-then-not-is_open : goal.returns-then-not-is_open
 returns-then-not-is_open c =
-    let open_at : is_open (book start).today.point ≡ c.is_open.result =
-        open_is start.requires.0 c.load_header-h.ensures c.is_open.ensures in
-    let s = start in
-    asked-shut (book s) (deal s) s.args.number (open_at ∙ not-true _ c.if-not-is_open.true-raw)
+    let s = start (goal.at.returns-then-not-is_open c).After-is_open in
+    asked-shut (book s) (deal s) s.args.number (open_at (goal.at.returns-then-not-is_open c).After-is_open ∙ not-true _ c.if-not-is_open.true-raw)
 
 pub find_contract-requires : goal.find_contract-requires
-find_contract-requires c = let h = start.requires.0 in ((sound-long h).counts, sound-listed h)
+find_contract-requires c = let h = (start (goal.at.find_contract-requires c).After-is_open).requires.0 in ((sound-long h).counts, sound-listed h)
 
 pub returns-in_default : goal.returns-in_default
 returns-in_default c =
-    let open_at : is_open (book start).today.point ≡ c.is_open.result =
-        open_is start.requires.0 c.load_header-h.ensures c.is_open.ensures in
-    let live : is_open (book start).today.point ≡ true =
-        open_at ∙ not-false _ c.if-not-is_open.false-raw in
-    let s = start in
-    let h = s.pre.0 in
-    asked-unlisted (book s) (deal s) s.args.number live
+    let s = start (goal.at.returns-in_default c).After-is_open in
+    let h = s.requires.0 in
+    asked-unlisted (book s) (deal s) s.args.number (live (goal.at.returns-in_default c).Else-not-is_open)
     (code-none (sound-kept h) (sound-holds h) (deal s).code (sym c.find_contract.ensures ∙ c.in_default.is))
 
 pub find_account-requires : goal.find_account-requires
-find_account-requires c = let h = start-k.requires.0 in ((sound-long h).counts, sound-members h)
+find_account-requires c = let h = (start-k (goal.at.find_account-requires c).In-At).requires.0 in ((sound-long h).counts, sound-members h)
 
 pub returns-in_default-find_account : goal.returns-in_default-find_account
 returns-in_default-find_account c =
-    let contract : let s = start-k in Stands (book s).contracts.codes (deal s).code c.in-At.k =
-        let h = start-k.requires.0 in
-    code-at (sound-kept h) (sound-holds h) _ _ (sym c.find_contract.ensures ∙ c.in-At.is) in
-    let found = c.before.before in
-    let s = start-k in
-    let h = s.pre.0 in
-    asked-unknown (book s) (deal s) s.args.number (live before-k) (has_here contract)
+    let s = start-k (goal.at.returns-in_default-find_account c).In-At in
+    let h = s.requires.0 in
+    asked-unknown (book s) (deal s) s.args.number (live (before-k (goal.at.returns-in_default-find_account c).In-At)) (has_here (contract (goal.at.returns-in_default-find_account c).In-At))
     (member-none (sound-kept h) (sound-holds h) s.args.number (sym c.find_account.ensures ∙ c.in_default-find_account.is))
 
 pub side_totals-requires : goal.side_totals-requires
 side_totals-requires c =
-    let side : let s = start-i in Stands (book s).accounts.members s.args.number c.in-At-find_account.i =
-        let h = start-i.requires.0 in
-    number-at (sound-kept h) (sound-holds h) _ _ (sym c.find_account.ensures ∙ c.in-At-find_account.is) in
-    let s = start-i in record {
-      sound = s.pre.0;
-      live = live (before-k before-i);
-      contract = contract before-i;
-      side = side;
-      range = s.pre.1.0;
-      party = s.pre.1.1;
+    let s = start-i (goal.at.side_totals-requires c).In-At-find_account in record {
+      sound = s.requires.0;
+      live = live (before-k (before-i (goal.at.side_totals-requires c).In-At-find_account));
+      contract = contract (before-i (goal.at.side_totals-requires c).In-At-find_account);
+      side = side (goal.at.side_totals-requires c).In-At-find_account;
+      range = s.requires.1.0;
+      party = s.requires.1.1;
     }
 
 pub returns : goal.returns
 returns c =
-    let side : let s = start-i in Stands (book s).accounts.members s.args.number c.in-At-find_account.i =
-        let h = start-i.requires.0 in
-    number-at (sound-kept h) (sound-holds h) _ _ (sym c.find_account.ensures ∙ c.in-At-find_account.is) in
-    let k = before-i in
-    let s = start-i in
-    asked-totals (book s) (deal s) s.args.number (live (before-k k)) (has_here (contract k)) (has_here side) c.side_totals.ensures
+    let k = before-i (goal.at.returns c).In-At-find_account in
+    let s = start-i (goal.at.returns c).In-At-find_account in
+    asked-totals (book s) (deal s) s.args.number (live (before-k k)) (has_here (contract k)) (has_here (side (goal.at.returns c).In-At-find_account)) c.side_totals.ensures

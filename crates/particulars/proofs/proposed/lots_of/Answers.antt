@@ -16,14 +16,14 @@ lots s = unsigned s.requires.0.most tt
 
 pub returns-then-number-t : goal.returns-then-number-t
 returns-then-number-t c =
-    (lots c.before.before.before).eq ∙ bought (trade_of c.args.t) c.args.number c.if-number-t.true
+    (lots (goal.at.returns-then-number-t c).Start).eq ∙ bought (trade_of c.args.t) c.args.number c.if-number-t.true
 
 pub overflow_sub-result : goal.overflow_sub-result
-overflow_sub-result c = fits (sub (now (lit (pos 0))) (lots c.before.before.before)) tt
+overflow_sub-result c = fits (sub (now (lit (pos 0))) (lots (goal.at.overflow_sub-result c).Start)) tt
 
 pub returns : goal.returns
 returns c =
     let t = c.args.t in
-    (kept (sub (now (lit (pos 0))) (lots c.before.before.before)) tt).eq
+    (kept (sub (now (lit (pos 0))) (lots (goal.at.returns c).Start)) tt).eq
     ∙ +ℤ_idl (neg_ℤ (pos t.lots))
     ∙ sold (trade_of t) c.args.number c.requires.1 (ne_eqb c.args.number t.buyer c.if-number-t.false)

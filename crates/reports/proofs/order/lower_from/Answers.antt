@@ -15,7 +15,6 @@ returns-in_default c =
 
 pub returns-then-k-key : goal.returns-then-k-key
 returns-then-k-key c =
-    let is = c.before.before in
     let a = c.args in
     let k = c.in-Is.k in
     sym (ap (lower_from a.from a.key) c.in-Is.is ∙ when_false _ _ (le-ltb _ _ c.if-key-from.false)
@@ -23,7 +22,6 @@ returns-then-k-key c =
 
 pub returns : goal.returns
 returns c =
-    let is = c.before.before in
     let a = c.args in
     let k = c.in-Is.k in
     sym (ap (lower_from a.from a.key) c.in-Is.is ∙ when_false _ _ (le-ltb _ _ c.if-key-from.false)

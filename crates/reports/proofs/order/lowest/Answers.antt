@@ -33,7 +33,7 @@ pub offset_bounds-counts-first : goal.offset_bounds-counts-first
 offset_bounds-counts-first c = omega (arith, inside c)
 
 pub bounds-counts-first : goal.bounds-counts-first
-bounds-counts-first c = inside c.before
+bounds-counts-first c = inside (goal.at.bounds-counts-first c).In-loop-i
 
 pub lower_from-found-requires : goal.lower_from-found-requires
 lower_from-found-requires c = tt
