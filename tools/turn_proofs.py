@@ -185,7 +185,7 @@ class Turner:
             if q == p:
                 break
             q = self.n.places[q]["parent"]
-        if rest[:1] == ["auto"] and len(rest) > 1 and rest[1].isdigit() and self.n.callees[p]:
+        if rest[:1] in (["auto"], ["new"]) and len(rest) > 1 and rest[1].isdigit() and self.n.callees[p]:
             lent = self.lent(self.n.callees[p])
             k = 1
             while k < len(rest) and rest[k] == "1":
@@ -313,7 +313,7 @@ class Turner:
         for m in re.finditer(r"\blet (" + IDENT + r") = " + IDENT + r"\.([\w'-]+)\s+in\b", text):
             if m.group(2) in steps:
                 for i, name in enumerate(self.lent(steps[m.group(2)])):
-                    text = re.sub(r"(?<![\w'.-])" + re.escape(m.group(1)) + r"\.auto" + r"\.1" * i + r"\.0\b", f"{m.group(1)}.auto.{name}", text)
+                    text = re.sub(r"(?<![\w'.-])" + re.escape(m.group(1)) + r"\.(auto|new)" + r"\.1" * i + r"\.0\b", rf"{m.group(1)}.\1.{name}", text)
         text = re.sub(r"to_z w64 ([\w'.-]+)-bits(?![\w'-])", r"\1", text)
         for x in self.n.bits:
             text = re.sub(r"to_z w64 ((?:[\w'-]+\.)+" + x + r")(?![\w'.-])", r"\1", text)
@@ -555,9 +555,8 @@ def turn(folder, crate, path, names, said):
                 dropped.append(new)
                 continue
             unf = re.findall(r"(?m)^unfolding .*$", joined[:c.start()])
-            if len(params) > 1 and re.search(r"(?<![\w'])" + re.escape(params[1]) + r"(?![\w'])", body):
-                said.append(f"{m.group(1)} uses {params[1]}")
-                params[0] += " " + params[1]
+            if any(re.search(r"(?<![\w'])" + re.escape(q) + r"(?![\w'])", body) for q in params[1:]):
+                params[0] = " ".join(params)
             body = t.types(t.body(body, {params[0].split()[0]: place} if params else {}, new))
             answers.append("\n".join([*d["note"], f"pub {new} : goal.{new}", *unf, f"{new} {params[0]} ={body}" if params else f"{new} ={body}"]))
             continue

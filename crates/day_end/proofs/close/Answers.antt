@@ -56,11 +56,11 @@ close_rows-requires c =
 pub returns : goal.returns
 unfolding after
 returns c =
-    let rows = subst (λ z. Holds c.close_rows.new.counts c.close_rows.new.1.0 (closed_rows z (rows_of (book (goal.at.returns c).Start))))
+    let rows = subst (λ z. Holds c.close_rows.new.counts c.close_rows.new.money (closed_rows z (rows_of (book (goal.at.returns c).Start))))
     (back c.ranges.final_rate) (c.close_rows.ensures (rows_of (book (goal.at.returns c).Start)) (sound-whole c.requires.0)).holds in
     record {
       answers = sym (first-passed 3 [] (settled (goal.at.returns c).Else-h-ne3) ∙ none_left);
-      memory = subst (Holds c.close_rows.new.0 c.close_rows.new.1.0)
+      memory = subst (Holds c.close_rows.new.counts c.close_rows.new.money)
           (close-rows (book (goal.at.returns c).Start) (sound-kept c.requires.0) (still_open (goal.at.returns c).Else-h-ne3) c.args.final_rate)
           rows;
     }

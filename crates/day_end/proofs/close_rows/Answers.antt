@@ -35,9 +35,9 @@ priced_at s r = priced s.args.final_rate r
 
 module _ (r : Rows) where
   priced-then : (c : After-store_outcomes) → HeldAt (start c) r
-      → Whole c.store_outcomes.new.counts c.store_outcomes.new.1.0 (priced_at (start c) r)
+      → Whole c.store_outcomes.new.counts c.store_outcomes.new.money (priced_at (start c) r)
   priced-then c w =
-      subst (λ z. Whole c.store_outcomes.new.0 c.store_outcomes.new.1.0 (priced z r)) (back (start c).ranges.final_rate)
+      subst (λ z. Whole c.store_outcomes.new.counts c.store_outcomes.new.money (priced z r)) (back (start c).ranges.final_rate)
       (c.store_outcomes.ensures r w)
 
   end-then : (c : After-day_end-d) → HeldAt (start (storing c)) r → c.day_end-d.result ≡ day_end_in (priced_at (start (storing c)) r)
@@ -48,13 +48,13 @@ module _ (r : Rows) where
   ended-then c w = ended-read _ (priced-then (storing c) w).shaped (end-then c w)
 
   booked-then : (c : After-close_accounts) → let s = start (storing (ending c)) in HeldAt s r
-      → Whole c.close_accounts.new.counts c.close_accounts.new.1.0 (booked (priced_at s r))
+      → Whole c.close_accounts.new.counts c.close_accounts.new.money (booked (priced_at s r))
   booked-then c w =
       booked-whole _ (ended-then (ending c) w) (end-then (ending c) w)
       (c.close_accounts.ensures _ (priced-then (storing (ending c)) w))
 
   renewed-then : (c : After-renew_contracts) → let s = start (storing (ending (booking c))) in HeldAt s r
-      → Whole c.renew_contracts.new.counts c.renew_contracts.new.1.0 (renewed (booked (priced_at s r)))
+      → Whole c.renew_contracts.new.counts c.renew_contracts.new.money (renewed (booked (priced_at s r)))
   renewed-then c w = renewed-whole _ (ended-then (ending (booking c)) w) (c.renew_contracts.ensures _ (booked-then (booking c) w))
 
 pub day_end-d-requires : goal.day_end-d-requires
@@ -87,5 +87,5 @@ shut_header-requires c =
     (memory-long _ w.shaped w.holds).counts
 
 pub returns : goal.returns
-returns c r =
+returns c r w =
     shut-whole _ (ended-then r (ending (booking (goal.at.returns c).After-renew_contracts)) w) (renewed-then r (goal.at.returns c).After-renew_contracts w) c.shut_header.ensures

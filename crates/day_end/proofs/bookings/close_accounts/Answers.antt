@@ -72,7 +72,7 @@ shape_of-money c =
     (long (goal.at.shape_of-money c).At-loop-i).money ∙ sym (memory-long _ p.whole.shaped p.whole.holds).money
 
 pub returns : goal.returns
-returns c r =
+returns c r w =
     let l = c.loop-i in
     let all : l.i ≡ r.header.members =
     (let e : l.i ≡ c.load_header-h.result.members = omega arith in

@@ -47,7 +47,7 @@ outcome_of-requires c =
     (p.known.tallies c.args.k)
 
 pub returns : goal.returns
-returns c r =
+returns c r w =
     let x = c.load_contract-x.result in
     let h = c.load_header-h.result in
     c.outcome_of.ensures

@@ -48,7 +48,7 @@ pub shape_of-money : goal.shape_of-money
 shape_of-money c = let p = c.requires in (long (goal.at.shape_of-money c).At-loop-k).money ∙ sym (memory-long _ p.whole.shaped p.whole.holds).money
 
 pub returns : goal.returns
-returns c r =
+returns c r w =
     let l = c.loop-k in
     subst (λ z. Whole l.counts l.money (priced z r)) (back c.ranges.final_rate)
     (priced-end _ r w.shaped l.k (omega arith) (l.invariant.1 r w))

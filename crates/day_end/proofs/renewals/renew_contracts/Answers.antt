@@ -49,6 +49,6 @@ pub shape_of-money : goal.shape_of-money
 shape_of-money c = c.loop-k.invariant.1.0.money ∙ sym c.requires.money
 
 pub returns : goal.returns
-returns c r =
+returns c r w =
     let l = c.loop-k in
     renewed-end c.args.ended r w.shaped l.k (omega arith) (l.invariant.1.1 r w)

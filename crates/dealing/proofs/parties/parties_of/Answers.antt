@@ -73,7 +73,7 @@ module _ {b : Book} {m : List ℤ} (g : Kept b) where
   row-j c h = number-at g h _ _ (sym c.find_account-2.ensures ∙ c.in-At-find_account-2.is)
 
   between : (c : Else-t) → Of b m (start-j (goal.at.Else-t c).In-At-find_account-2)
-      → Between b (deal (start-j (goal.at.Else-t c).In-At-find_account-2)) (before-i (before-j (goal.at.Else-t c).In-At-find_account-2)).before.k.given.0.0 (before-j (goal.at.Else-t c).In-At-find_account-2).in-At-find_account.i c.in-At-find_account-2.j
+      → Between b (deal (start-j (goal.at.Else-t c).In-At-find_account-2)) (before-i (before-j (goal.at.Else-t c).In-At-find_account-2)).in-At.k (before-j (goal.at.Else-t c).In-At-find_account-2).in-At-find_account.i c.in-At-find_account-2.j
   between c h = record {
     live = live (before-k (before-i (before-j (goal.at.Else-t c).In-At-find_account-2))) h;
     contract = row-k (before-i (before-j (goal.at.Else-t c).In-At-find_account-2)) h;

@@ -91,7 +91,7 @@ first-stored c = (goal.at.After-store_account-2 c).After-store_account
 abbrev start-stored : After-store_account-2 → Start
 start-stored c = start (judging (accepted (first-stored c)))
 
-both : (c : After-store_account-2) → Holds c.store_account-2.new.counts c.store_account-2.new.1.0 (sides (start-stored c).requires)
+both : (c : After-store_account-2) → Holds c.store_account-2.new.counts c.store_account-2.new.money (sides (start-stored c).requires)
 both c =
     let first = first-stored c in
     let q = accepted first in
@@ -154,7 +154,7 @@ pub store_account-requires-2 : goal.store_account-requires-2
 store_account-requires-2 c =
     let d = (start (judging (accepted (goal.at.store_account-requires-2 c).After-store_account))).requires in
     let same = c.store_account.auto in
-    (record { counts = same.0 ∙ (deals-long d).counts; money = same.1.0 ∙ (deals-long d).money }, row_below d d.ready.between.seller)
+    (record { counts = same.counts ∙ (deals-long d).counts; money = same.money ∙ (deals-long d).money }, row_below d d.ready.between.seller)
 
 pub write_trade-requires : goal.write_trade-requires
 write_trade-requires c =
@@ -165,6 +165,6 @@ pub returns : goal.returns
 returns c =
     let s = start-stored (goal.at.returns c).After-store_account-2 in
     let told = (first-stored (goal.at.returns c).After-store_account-2).in-Accepted.is in
-    subst (λ r. Traded s.args.counts.now s.args.money.now (deal s) r c.write_trade.new.counts c.write_trade.new.1.0) (sym told)
+    subst (λ r. Traded s.args.counts.now s.args.money.now (deal s) r c.write_trade.new.counts c.write_trade.new.money) (sym told)
     (accepted-traded s.requires.sound (subst (Answers (book s) (deal s)) told (answer (accepted (first-stored (goal.at.returns c).After-store_account-2))))
     (all-written s.requires (both (goal.at.returns c).After-store_account-2) c.write_trade.ensures))
