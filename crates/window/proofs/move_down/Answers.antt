@@ -1,14 +1,12 @@
 -- What is moved goes to where it was or to an earlier place, so that what is still to be moved stands as it did.
 use mathlib.Core.Path.{◌≡◌, refl, sym, ap, ◌∙◌}
 use mathlib.Core.List.{List}
-use Prim.Native.Nat.{ℕ, ◌+◌, ◌-◌, ◌≤◌, ◌<◌}
+use Prim.Native.Nat.{ℕ, ◌+◌, ◌<◌}
 use lib.ListN.{length, take, drop, get_or, set, length-set, length-drop}
 use lib.Seq.{take-suc, take-suc-set, drop-set-lt, drop-drop, get_or-drop}
 use native.Mathlib.Numerals.{add-one}
 use native.Mathlib.Omega.{arith}
-use borrow.Author.Rules.{rules}
-use Rattle.window.proofs.move_down.Statement.{statement}
-use Rattle.window.proofs.move_down.Tie as tie
+use Rattle.window.proofs.move_down.Goals as goal
 
 -- a byte more
 module _ (from moved : ℕ) (old new : List ℕ) (inside : from + moved < length old) (same : length new ≡ length old)
@@ -35,39 +33,13 @@ module _ (from moved : ℕ) (old new : List ℕ) (inside : from + moved < length
       drop-set-lt (moved + 1) new moved (get_or new (from + moved) 0) (omega arith)
       ∙ sym (drop-drop 1 moved new) ∙ ap (drop 1) kept ∙ drop-drop 1 moved old
 
-abbrev invariant-loop : tie.invariant-loop
-invariant-loop block₀ from to moved₀ block moved =
-    (length block ≡ length block₀)
-    × ((from + moved ≤ to) × ((take moved block ≡ take moved (drop from block₀)) × (drop moved block ≡ drop moved block₀)))
+pub loop-moved-init : goal.loop-moved-init
+loop-moved-init c = (refl, (omega arith, (refl, refl)))
 
-abbrev decreases-loop : tie.decreases-loop
-decreases-loop block₀ from to moved₀ block moved = to - (from + moved)
-
-loop-holds : tie.Need-loop-init invariant-loop decreases-loop
-loop-holds c = (refl, (omega arith, (refl, refl)))
-
-add-loop : tie.Need-overflow-add-loop invariant-loop decreases-loop
-add-loop c = search rules
-
-add-block : tie.Need-overflow-add-block invariant-loop decreases-loop
-add-block c = search rules
-
-slice-read-block : tie.Need-slice-read-block invariant-loop decreases-loop
-slice-read-block c = search rules
-
-slice-write-block : tie.Need-slice-write-block invariant-loop decreases-loop
-slice-write-block c = search rules
-
-add-moved : tie.Need-overflow-add-moved invariant-loop decreases-loop
-add-moved c = search rules
-
-loop-less : tie.Need-loop-smaller invariant-loop decreases-loop
-loop-less c = search rules
-
-loop-again : tie.Need-loop-preserved invariant-loop decreases-loop
-loop-again c =
-    let l = c.before.before.loop in
-    let a = c.before.before.before.args in
+pub loop-moved-preserved : goal.loop-moved-preserved
+loop-moved-preserved c =
+    let l = c.loop-moved in
+    let a = c.args in
     let inside : a.from + l.moved < length a.block.now = omega arith in
     let inv = l.invariant in (
       simp length-set (omega arith),
@@ -80,25 +52,5 @@ loop-again c =
       ),
     )
 
-same_length : tie.Need-same-length invariant-loop decreases-loop
-same_length c = search rules
-
-returns : tie.Need-returns invariant-loop decreases-loop
-returns c = (omega arith, c.before.loop.invariant.1.1.0)
-
-pub move_down_spec : {M : Type 1} → statement M
-move_down_spec =
-    tie.close
-    (tie.spec
-    invariant-loop
-    decreases-loop
-    loop-holds
-    add-loop
-    add-block
-    slice-read-block
-    slice-write-block
-    add-moved
-    loop-less
-    loop-again
-    same_length
-    returns)
+pub returns : goal.returns
+returns c = (omega arith, c.loop-moved.invariant.1.1.0)

@@ -9,12 +9,10 @@ use lib.ListN.{length, take, drop}
 use lib.Seq.{take-add, take-append-add, take-append-le, drop_at, length-take-le}
 use native.Mathlib.Decide.{dec_lt}
 use native.Mathlib.Omega.{arith}
-use borrow.Author.Rules.{rules}
 use borrow.Author.Tests.{lt-ltb}
 use Rattle.window.specs.declared.Window.{Window}
 use Rattle.window.specs.Window.{Within, held, Refilled}
-use Rattle.window.proofs.refill.Statement.{statement}
-use Rattle.window.proofs.refill.Tie as tie
+use Rattle.window.proofs.refill.Goals as goal
 
 -- nothing is read where the file has ended or enough is in hand
 nothing_read : {enough : ℕ} (w : Window) (block : List ℕ) → Within (length block) w → (w.ended ≡ true) ⊎ (enough ≤ w.to - w.from)
@@ -51,73 +49,27 @@ filled to size enough fits = go (dec_lt to size)
     go (yes short) = inl (lt-ltb to size short)
     go (no full) = inr (omega arith)
 
-returns : tie.Need-returns
-returns c =
-    let first = c.before.before in
-    nothing_read first.args.w first.args.block.now first.requires.0 (inl c.if1.true)
+pub returns-then-w : goal.returns-then-w
+returns-then-w g c =
+    nothing_read c.args.w c.args.block.now c.requires.within (inl c.if-w.true)
 
-sub-if2 : tie.Need-overflow-sub-if2
-sub-if2 c = search rules
+pub returns-then-enough-w : goal.returns-then-enough-w
+returns-then-enough-w g c =
+    nothing_read c.args.w c.args.block.now c.requires.within (inr c.if-enough-w.true)
 
-returns-2 : tie.Need-returns-2
-returns-2 c =
-    let first = c.before.before.before.before in
-    nothing_read first.args.w first.args.block.now first.requires.0 (inr c.if2.true)
-
-move-down-requires : tie.Need-move-down-requires
-move-down-requires c κs = search rules
-
-sub-read-full : tie.Need-overflow-sub-read-full
-sub-read-full c = search rules
-
-part-read-full-start : tie.Need-slice-bounds-read-full-start
-part-read-full-start c = search rules
-
-part-read-full-end : tie.Need-slice-bounds-read-full-end
-part-read-full-end c = search rules
-
-read-full-requires : tie.Need-read-full-requires
-read-full-requires c κs = search rules
-
-add-to : tie.Need-overflow-add-to
-add-to c = search rules
-
-same_length : tie.Need-same-length
-same_length c = search rules
-
-returns-3 : tie.Need-returns-3
-returns-3 c =
-    let read = c.before.before in
-    let moved = read.before.before.before.before in
-    let tested = moved.before.before.before.before in
-    let first = tested.before.before in
-    let a = first.args in
-    let left = moved.move_down in
-    let part = read.read-full.new.1.0 in
-    let got = read.read-full.result in
+pub returns : goal.returns
+returns g c =
+    let a = c.args in
+    let left = c.move_down-left in
+    let part = c.read_full-got.new.block in
+    let got = c.read_full-got.result in
     record {
       within = (omega arith, omega arith);
       got = take got part;
       bytes =
-          read_behind a.w a.block.now left.new.0 part _ left.result got first.requires.0 left.ensures.0 (omega arith) left.ensures.1
+          read_behind a.w a.block.now left.new.block part _ left.result got c.requires.within left.ensures.0 (omega arith) left.ensures.1
           (omega arith);
       place = refl;
-      none = λ ended. absurd (false≢true (sym tested.if1.false ∙ ended));
+      none = λ ended. absurd (false≢true (sym c.if-w.false ∙ ended));
       plenty = filled (left.result + got) _ a.enough (omega arith);
     }
-
-pub refill-spec : {M : Type 1} → statement M
-refill-spec =
-    tie.close
-    (tie.spec
-    returns
-    sub-if2
-    returns-2
-    move-down-requires
-    sub-read-full
-    part-read-full-start
-    part-read-full-end
-    read-full-requires
-    add-to
-    same_length
-    returns-3)
