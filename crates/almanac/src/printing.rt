@@ -4,20 +4,20 @@ ghost use Rattle.std.specs.Prelude.{◌≡◌, true, ◌≤◌, ◌<◌};
 ghost use Rattle.days.specs.Days.{rising};
 
 use crate::text::{put_day, put_field, put_listing, put_word, write_line};
-use libc::STDOUT_FILENO;
 use months::Month;
+use std::io::Write;
 
 // The line that a list begins with.
-fn print_heading(k: u64) -> bool {
+fn print_heading<W: Write>(output: &mut W, k: u64) -> bool {
     let mut line = [0u8; 256];
     let named = put_word(&mut line, 0, b"list");
     let numbered = put_field(&mut line, named, k);
     let end = put_word(&mut line, numbered, b"\n");
-    write_line(&line, end)
+    write_line(output, &line, end)
 }
 
 // A month's code, its settlement day and its last trading day.
-fn print_month(exceptions: &[u64], month: Month) -> bool
+fn print_month<W: Write>(output: &mut W, exceptions: &[u64], month: Month) -> bool
     requires { rising exceptions.now ≡ true }
 {
     let code = month.code();
@@ -31,16 +31,16 @@ fn print_month(exceptions: &[u64], month: Month) -> bool
         calendar::last_trading_of(exceptions, code),
     );
     let end = put_word(&mut line, traded, b"\n");
-    write_line(&line, end)
+    write_line(output, &line, end)
 }
 
 // The months from the one before the calendar's first to the one after its last.
-fn print_months(exceptions: &[u64]) -> bool
+fn print_months<W: Write>(output: &mut W, exceptions: &[u64]) -> bool
     requires { rising exceptions.now ≡ true }
 {
     let mut number = Month::FIRST - 1;
     while number <= Month::LAST + 1 {
-        if !print_month(exceptions, Month { number }) {
+        if !print_month(&mut *output, exceptions, Month { number }) {
             return false;
         }
         number += 1;
@@ -49,7 +49,7 @@ fn print_months(exceptions: &[u64]) -> bool
 }
 
 // What is listed on a day.
-fn print_listing(exceptions: &[u64], t: u64) -> bool
+fn print_listing<W: Write>(output: &mut W, exceptions: &[u64], t: u64) -> bool
     requires { rising exceptions.now ≡ true }
 {
     let mut line = [0u8; 256];
@@ -57,17 +57,17 @@ fn print_listing(exceptions: &[u64], t: u64) -> bool
     let dated = put_field(&mut line, named, t);
     let listed = put_listing(&mut line, dated, calendar::listed_on(exceptions, t));
     let end = put_word(&mut line, listed, b"\n");
-    write_line(&line, end)
+    write_line(output, &line, end)
 }
 
 // What is listed on each working day from one day to another.
-fn print_listings(exceptions: &[u64], first: u64, last: u64) -> bool
+fn print_listings<W: Write>(output: &mut W, exceptions: &[u64], first: u64, last: u64) -> bool
     requires { (rising exceptions.now ≡ true) × (last < 3653) }
 {
     let mut t = first;
     while t <= last {
         if days::is_working(exceptions, t) {
-            if !print_listing(exceptions, t) {
+            if !print_listing(&mut *output, exceptions, t) {
                 return false;
             }
         }
@@ -77,41 +77,41 @@ fn print_listings(exceptions: &[u64], first: u64, last: u64) -> bool
 }
 
 // An accepted calendar: its months, and what is listed in the years 2023 and 2029.
-fn print_accepted(exceptions: &[u64]) -> bool
+fn print_accepted<W: Write>(output: &mut W, exceptions: &[u64]) -> bool
     requires { rising exceptions.now ≡ true }
 {
-    if !print_months(exceptions) {
+    if !print_months(&mut *output, exceptions) {
         return false;
     }
-    if !print_listings(exceptions, 1096, 1460) {
+    if !print_listings(&mut *output, exceptions, 1096, 1460) {
         return false;
     }
-    print_listings(exceptions, 3288, 3652)
+    print_listings(&mut *output, exceptions, 3288, 3652)
 }
 
 // What is wrong with the exceptions, or what the calendar makes of them.
-fn print_almanac(exceptions: &[u64]) -> bool {
+fn print_almanac<W: Write>(output: &mut W, exceptions: &[u64]) -> bool {
     if !days::are_rising(exceptions) {
-        return io::write_all(STDOUT_FILENO, b"not rising\n");
+        return output.write_all(b"not rising\n").is_ok();
     }
     if !days::is_accepted(exceptions) {
-        return io::write_all(STDOUT_FILENO, b"refused\n");
+        return output.write_all(b"refused\n").is_ok();
     }
-    print_accepted(exceptions)
+    print_accepted(&mut *output, exceptions)
 }
 
 // The k-th list: its heading, and what becomes of the first `count` of the days lent.
-pub(crate) fn print_list(k: u64, days: &[u64; 400], count: usize) -> bool
+pub(crate) fn print_list<W: Write>(output: &mut W, k: u64, days: &[u64; 400], count: usize) -> bool
     requires { count ≤ 400 }
 {
-    if !print_heading(k) {
+    if !print_heading(&mut *output, k) {
         return false;
     }
     let all: &[u64] = days;
-    print_almanac(&all[..count])
+    print_almanac(&mut *output, &all[..count])
 }
 
 // What ends a run on a line that is no list.
-pub(crate) fn print_bad_input() -> bool {
-    io::write_all(STDOUT_FILENO, b"bad input\n")
+pub(crate) fn print_bad_input<W: Write>(output: &mut W) -> bool {
+    output.write_all(b"bad input\n").is_ok()
 }

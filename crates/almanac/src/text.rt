@@ -4,7 +4,8 @@ ghost use Rattle.std.specs.Prelude.{◌≡◌, ◌+◌, ◌≤◌, length};
 
 use calendar::Listing;
 use days::Day;
-use libc::STDOUT_FILENO;
+use decimal::digits_of;
+use std::io::Write;
 
 // Puts a word.
 pub(crate) fn put_word(line: &mut [u8; 256], at: usize, word: &[u8]) -> usize
@@ -25,7 +26,7 @@ fn put_number(line: &mut [u8; 256], at: usize, number: u64) -> usize
     ensures { result ≤ at + 20 }
 {
     let mut digits = [0u8; 20];
-    let count = io::decimal(number, &mut digits);
+    let count = digits_of(number, &mut digits);
     put_word(line, at, &digits[..count])
 }
 
@@ -76,9 +77,9 @@ pub(crate) fn put_listing(line: &mut [u8; 256], at: usize, listing: Listing) -> 
 }
 
 // Writes a line up to a place, and answers whether all of it was written.
-pub(crate) fn write_line(line: &[u8; 256], end: usize) -> bool
+pub(crate) fn write_line<W: Write>(output: &mut W, line: &[u8; 256], end: usize) -> bool
     requires { end ≤ 256 }
 {
     let bytes: &[u8] = line;
-    io::write_all(STDOUT_FILENO, &bytes[..end])
+    output.write_all(&bytes[..end]).is_ok()
 }

@@ -1,13 +1,13 @@
--- The text of a number: it is what `io::decimal` spells, a reader takes it for the number again, and no zero stands in front.
+-- The text of a number: it is what its digits, counted out, spell, a reader takes it for the number again, and no zero stands in front.
 use Rattle.std.specs.Prelude.{◌≡◌, refl, ◌&&◌, List, [], ◌∷◌, ◌++◌, ℕ, zero, suc, ◌+◌, ◌*◌, ◌/◌, ◌%◌, ◌^◌, ◌≤◌, ◌<◌, leb, ltb, ℤ, pos, negsuc, neg_ℤ, get_or}
 use Rattle.std.proofs.Common.{sym, ap, ◌∙◌, mod-eq_of_lt, pow-suc, arith, ltb-true, ltb-false, lt-ltb, le-ltb, le-leb, ne_eqb, SFits}
 use Rattle.std.proofs.Math.Nat.{one-le-pow}
 use Rattle.std.proofs.Math.Numerals.{unary_clauses}
 use Rattle.std.specs.Int.{w64}
-use Rattle.io.specs.Digits.{hex_digit_ascii, last_digits, IsDigitCount}
 use Rattle.lists.specs.HasLaws.{by_test, when_true, when_false}
 use Rattle.scan.specs.Text.{is_digit, most, with_digit, number_from, number_in}
 use Rattle.scan.specs.declared.Number.TheVariants.{Of, NoNumber}
+use Rattle.decimal.specs.Digits.{last_digits, IsDigitCount}
 use Rattle.decimal.specs.Decimal.{digit, digits_in, numeral, minus, signed_numeral, signed, taken_as, signed_in}
 
 -- ---- one digit, or one more behind those of the tenth
@@ -23,25 +23,22 @@ module _ (places n : ℕ) where
   unfolding digits_in
   digits_more h = when_false _ _ (le-ltb n 10 h)
 
--- ---- the digits that `io::decimal` spells
-glyph-digit : (d : ℕ) → d < 10 → hex_digit_ascii d ≡ digit d
-glyph-digit d h = when_true _ _ (lt-ltb d 10 h)
-
-spelled-in : (k places n : ℕ) → n < 10 ^ suc places → IsDigitCount 10 1 n k → last_digits 10 k n ≡ digits_in (suc places) n
+-- ---- the digits counted out
+spelled-in : (k places n : ℕ) → n < 10 ^ suc places → IsDigitCount n k → last_digits k n ≡ digits_in (suc places) n
 spelled-in zero places n h f = absurd (omega (arith, f.0))
 spelled-in (suc zero) places n h f =
     let small : n < 10 = omega (arith, f.1) in
-    rw (digits-one places n small, mod-eq_of_lt small) (ap (λ d. d ∷ []) (glyph-digit n small))
+    rw (digits-one places n small, mod-eq_of_lt small) refl
 spelled-in (suc (suc k)) zero n h f = absurd (omega (arith, simp unary_clauses at (f.2 (omega arith)), one-le-pow k 10 (omega arith)))
 spelled-in (suc (suc k)) (suc places) n h f =
     let above : 10 ^ k * 10 ≤ n = simp unary_clauses at (f.2 (omega arith)) in
     let below : n < 10 ^ k * 10 * 10 = simp unary_clauses at f.1 in
     let tens : 10 ≤ n = omega (arith, one-le-pow k 10 (omega arith)) in
-    let tenth : IsDigitCount 10 1 (n / 10) (suc k) = (omega arith, simp unary_clauses (omega arith), λ _. simp unary_clauses (omega arith)) in
-    rw (digits_more (suc places) n tens, glyph-digit (n % 10) (omega arith))
+    let tenth : IsDigitCount (n / 10) (suc k) = (omega arith, simp unary_clauses (omega arith), λ _. simp unary_clauses (omega arith)) in
+    rw (digits_more (suc places) n tens)
     (ap (λ l. l ++ (digit (n % 10) ∷ [])) (spelled-in (suc k) places (n / 10) (omega (arith, pow-suc 10 (suc places))) tenth))
 
-pub spelled : (k n : ℕ) → n ≤ most → IsDigitCount 10 1 n k → last_digits 10 k n ≡ numeral n
+pub spelled : (k n : ℕ) → n ≤ most → IsDigitCount n k → last_digits k n ≡ numeral n
 spelled k n h = spelled-in k 19 n (omega arith)
 
 -- ---- the number is read back

@@ -1,4 +1,5 @@
 pub mod Decimal
 pub mod DecimalLaws
+pub mod Digits
 pub mod Put
 pub mod PutLaws

@@ -1,7 +1,10 @@
 // Text put into lent room: words, numbers and signed numbers in decimal digits, shortest form. Each function puts something at a place
 // and answers the place after it; the rest of the room stays.
-ghost use Rattle.std.specs.Prelude.{◌+◌, ◌≤◌, length};
+#![tactic(auto)]
+
+ghost use Rattle.std.specs.Prelude.{◌≡◌, ◌+◌, ◌≤◌, length, take, drop};
 ghost use Rattle.decimal.specs.Decimal.{numeral, signed_numeral};
+ghost use Rattle.decimal.specs.Digits.{last_digits, IsDigitCount};
 ghost use Rattle.decimal.specs.Put.{Put};
 
 // A number of 64 bits has 20 digits at most.
@@ -20,13 +23,53 @@ pub fn put_word(room: &mut [u8], at: usize, word: &[u8]) -> usize
     at + done
 }
 
+// How many digits a number has.
+fn digit_count(number: u64) -> usize
+    ensures { IsDigitCount number result }
+{
+    let mut count: usize = 1;
+    let mut rest = number / 10;
+    while 0 < rest {
+        rest /= 10;
+        count += 1;
+    }
+    count
+}
+
+// Puts so many of a number's last digits at the front of a room.
+fn put_digits(number: u64, count: usize, room: &mut [u8])
+    requires { count ≤ length room.old }
+    ensures digits { take count room.new ≡ last_digits count number }
+    ensures rest { drop count room.new ≡ drop count room.old }
+{
+    let mut left = count;
+    let mut rest = number;
+    while 0 < left {
+        left -= 1;
+        room[left] = b'0' + (rest % 10) as u8;
+        rest /= 10;
+    }
+}
+
+// Puts the digits of a number at the front of a room that holds any number's, and answers how many there are.
+pub fn digits_of(number: u64, room: &mut [u8; DIGITS]) -> usize
+    ensures count { result ≡ length (numeral number) }
+    ensures at_most { result ≤ 20 }
+    ensures digits { take result room.new ≡ numeral number }
+    ensures rest { drop result room.new ≡ drop result room.old }
+{
+    let count = digit_count(number);
+    put_digits(number, count, room);
+    count
+}
+
 // Puts a number.
 pub fn put_number(room: &mut [u8], at: usize, number: u64) -> usize
     requires { at + 20 ≤ length room.old }
     ensures { Put room.old at (numeral number) result room.new }
 {
     let mut digits = [0u8; DIGITS];
-    let count = io::decimal(number, &mut digits);
+    let count = digits_of(number, &mut digits);
     put_word(room, at, &digits[..count])
 }
 

@@ -1,7 +1,8 @@
 // Turns the text on standard input into an event file on standard output (docs/GUIDE.md, 'A day as text').
-use libc::{STDIN_FILENO, STDOUT_FILENO};
+#![tactic(auto)]
+
 use packing::pack;
 
-fn main() {
-    let _packed = pack(STDIN_FILENO, STDOUT_FILENO);
+fn main(rt: HostRuntime) {
+    let _packed = pack(&mut rt.stdin(), &mut rt.stdout(), &mut rt.stderr());
 }

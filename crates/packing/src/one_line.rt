@@ -11,6 +11,7 @@ use crate::squeezed::{Squeezed, squeeze};
 use fields::{WIDTH, announced};
 use parsing::{Line, read_line};
 use records::{Written, write_record};
+use std::io::Write;
 
 // No record's line is longer.
 const SQUEEZED: usize = 8914;
@@ -55,7 +56,14 @@ fn put_bytes(
 }
 
 // Puts the bytes of a squeezed line's record. The list is lent for its exceptions.
-fn pack_record(line: &[u8], number: u64, list: &mut [u64], room: &mut [u8], used: usize) -> Packing
+fn pack_record<E: Write>(
+    errors: &mut E,
+    line: &[u8],
+    number: u64,
+    list: &mut [u64],
+    room: &mut [u8],
+    used: usize,
+) -> Packing
     requires { (length list.old ≡ 400) × (used + 4140 ≤ length room.old) }
     ensures record_of { RecordOf line.now room.old used result room.new }
     ensures at_most { AtMost used result }
@@ -65,7 +73,7 @@ fn pack_record(line: &[u8], number: u64, list: &mut [u64], room: &mut [u8], used
     let kind = read.kind;
     let fields = read.fields;
     if !is_record(found) {
-        say_expected(number, found, kind, fields);
+        say_expected(errors, number, found, kind, fields);
         return Packing::Bad;
     }
     let count = announced(kind, fields) as usize;
@@ -74,7 +82,8 @@ fn pack_record(line: &[u8], number: u64, list: &mut [u64], room: &mut [u8], used
 }
 
 // Packs a line as a person writes it. One that is empty, but for spaces and a remark, is passed over.
-fn pack_written(
+fn pack_written<E: Write>(
+    errors: &mut E,
     text: &[u8],
     number: u64,
     line: &mut [u8],
@@ -87,17 +96,18 @@ fn pack_written(
 {
     let squeezed = squeeze(text, &mut *line);
     let Squeezed::To(size) = squeezed else {
-        say_too_long(number);
+        say_too_long(errors, number);
         return Packing::Bad;
     };
     if size == 0 {
         return Packing::After(used);
     }
-    pack_record(&line[..size], number, list, room, used)
+    pack_record(errors, &line[..size], number, list, room, used)
 }
 
 // Lends arrays as the squeezed line and the list. Their lengths are known by their types, and are not counted out.
-fn pack_within(
+fn pack_within<E: Write>(
+    errors: &mut E,
     text: &[u8],
     number: u64,
     line: &mut [u8; SQUEEZED],
@@ -108,15 +118,21 @@ fn pack_within(
     requires { used + 4140 ≤ length room.old }
     ensures { AtMost used result }
 {
-    pack_written(text, number, line, list, room, used)
+    pack_written(errors, text, number, line, list, room, used)
 }
 
 // Packs a line.
-pub(crate) fn pack_line(text: &[u8], number: u64, room: &mut [u8], used: usize) -> Packing
+pub(crate) fn pack_line<E: Write>(
+    errors: &mut E,
+    text: &[u8],
+    number: u64,
+    room: &mut [u8],
+    used: usize,
+) -> Packing
     requires { used + 4140 ≤ length room.old }
     ensures { AtMost used result }
 {
     let mut line = [0u8; SQUEEZED];
     let mut list = [0u64; 400];
-    pack_within(text, number, &mut line, &mut list, room, used)
+    pack_within(errors, text, number, &mut line, &mut list, room, used)
 }

@@ -6,6 +6,7 @@ ghost use Rattle.packing.specs.PackTurns.{Counted, Nearer, Reaches, GoesOn, Read
 use crate::complaints::say_too_long;
 use crate::one_line::{Packing, pack_line};
 use scan::line_end;
+use std::io::{Read, Write};
 use window::{Window, first_window, refill};
 
 // How many bytes of the text, and of the file, are held at a time.
@@ -107,17 +108,23 @@ fn stopped(p: Progress) -> Progress
 }
 
 // Packs the next line.
-fn pack_next(bytes: &[u8], room: &mut [u8], p: Progress, ended: bool) -> Progress
+fn pack_next<E: Write>(
+    errors: &mut E,
+    bytes: &[u8],
+    room: &mut [u8],
+    p: Progress,
+    ended: bool,
+) -> Progress
     requires { (p.at < length bytes.now) × (p.used + 4140 ≤ length room.old) }
     ensures { Nearer (length bytes.now) p result }
 {
     let at = p.at;
     let end = line_end(bytes, at);
     if is_cut(end, bytes.len(), ended) {
-        say_too_long(p.number);
+        say_too_long(errors, p.number);
         return stopped(p);
     }
-    let packing = pack_line(&bytes[at..end], p.number, room, p.used);
+    let packing = pack_line(errors, &bytes[at..end], p.number, room, p.used);
     match packing {
         Packing::Bad => stopped(p),
         Packing::After(used) => {
@@ -133,7 +140,14 @@ fn pack_next(bytes: &[u8], room: &mut [u8], p: Progress, ended: bool) -> Progres
 }
 
 // Packs line after line, until one is bad, the room is nearly full or a line might be cut.
-fn pack_block(bytes: &[u8], room: &mut [u8], from: usize, number: u64, ended: bool) -> Progress
+fn pack_block<E: Write>(
+    errors: &mut E,
+    bytes: &[u8],
+    room: &mut [u8],
+    from: usize,
+    number: u64,
+    ended: bool,
+) -> Progress
     requires { (from ≤ length bytes.now) × ((65536 ≤ length room.old) × (1 ≤ number)) }
     ensures { Reaches (length bytes.now) from result }
 {
@@ -144,7 +158,7 @@ fn pack_block(bytes: &[u8], room: &mut [u8], from: usize, number: u64, ended: bo
         bad: false,
     };
     while is_next(p, bytes.len(), ended) {
-        p = pack_next(bytes, &mut *room, p, ended);
+        p = pack_next(&mut *errors, bytes, &mut *room, p, ended);
     }
     p
 }
@@ -175,9 +189,10 @@ fn turned(p: Progress, w: Window) -> Turn
 }
 
 // A turn: reads on where it must, packs what it can, and writes that.
-fn take_turn(
-    input: i32,
-    output: i32,
+fn take_turn<R: Read, W: Write, E: Write>(
+    input: &mut R,
+    output: &mut W,
+    errors: &mut E,
     block: &mut [u8],
     room: &mut [u8],
     before: Window,
@@ -189,16 +204,22 @@ fn take_turn(
 {
     let w = refill(input, &mut *block, before, LONGEST_LINE);
     let to = w.to;
-    let p = pack_block(&block[..to], &mut *room, w.from, number, w.ended);
+    let p = pack_block(errors, &block[..to], &mut *room, w.from, number, w.ended);
     let used = p.used;
-    if !io::write_all(output, &room[..used]) {
+    if output.write_all(&room[..used]).is_err() {
         return Turn::Ended(Packed::NotWritten);
     }
     turned(p, w)
 }
 
 // Takes turns until the text is done.
-fn take_turns(input: i32, output: i32, block: &mut [u8], room: &mut [u8]) -> Packed
+fn take_turns<R: Read, W: Write, E: Write>(
+    input: &mut R,
+    output: &mut W,
+    errors: &mut E,
+    block: &mut [u8],
+    room: &mut [u8],
+) -> Packed
     requires { (length block.old ≤ 65536) × ((32768 ≤ length block.old) × (65536 ≤ length room.old)) }
     ensures { Counted result }
 {
@@ -206,7 +227,15 @@ fn take_turns(input: i32, output: i32, block: &mut [u8], room: &mut [u8]) -> Pac
     let mut number: u64 = 1;
     let mut turns = TURNS;
     while 0 < turns {
-        let turn = take_turn(input, output, &mut *block, &mut *room, w, number);
+        let turn = take_turn(
+            &mut *input,
+            &mut *output,
+            &mut *errors,
+            &mut *block,
+            &mut *room,
+            w,
+            number,
+        );
         match turn {
             Turn::Ended(packed) => return packed,
             Turn::On(next, line) => {
@@ -220,17 +249,23 @@ fn take_turns(input: i32, output: i32, block: &mut [u8], room: &mut [u8]) -> Pac
 }
 
 // Lends arrays as the block and the room. Their lengths are known by their types, and are not counted out.
-fn pack_within(input: i32, output: i32, block: &mut [u8; BLOCK], room: &mut [u8; BLOCK]) -> Packed
+fn pack_within<R: Read, W: Write, E: Write>(
+    input: &mut R,
+    output: &mut W,
+    errors: &mut E,
+    block: &mut [u8; BLOCK],
+    room: &mut [u8; BLOCK],
+) -> Packed
     ensures { Counted result }
 {
-    take_turns(input, output, block, room)
+    take_turns(input, output, errors, block, room)
 }
 
-// Writes the records of a text, up to its end or to a line that is no record: what was expected there is said on standard error.
-pub fn pack(input: i32, output: i32) -> Packed
+// Writes the records of a text, up to its end or to a line that is no record: what was expected there is said among the errors.
+pub fn pack<R: Read, W: Write, E: Write>(input: &mut R, output: &mut W, errors: &mut E) -> Packed
     ensures { Counted result }
 {
     let mut block = [0u8; BLOCK];
     let mut room = [0u8; BLOCK];
-    pack_within(input, output, &mut block, &mut room)
+    pack_within(input, output, errors, &mut block, &mut room)
 }

@@ -12,6 +12,7 @@ use decimal::put_word;
 use decoding::read_numbers;
 use fields::announced;
 use records::{Answer, read_record};
+use std::io::{Read, Write};
 use window::{Window, first_window, refill};
 use wording::put_record;
 
@@ -174,7 +175,13 @@ fn turned(p: Progress, w: Window) -> Turn
 }
 
 // A turn: reads on where it must, unpacks what it can, and writes that.
-fn take_turn(input: i32, output: i32, block: &mut [u8], room: &mut [u8], before: Window) -> Turn
+fn take_turn<R: Read, W: Write>(
+    input: &mut R,
+    output: &mut W,
+    block: &mut [u8],
+    room: &mut [u8],
+    before: Window,
+) -> Turn
     requires within { Within (length block.old) before × ((length block.old ≤ 65536) × (4140 ≤ length block.old)) }
     requires in_bounds { (65536 ≤ length room.old) × (before.place + 65536 ≤ 18446744073709551615) }
     ensures { GoesOn (length block.old) before.place result }
@@ -183,20 +190,25 @@ fn take_turn(input: i32, output: i32, block: &mut [u8], room: &mut [u8], before:
     let to = w.to;
     let p = unpack_block(&block[..to], &mut *room, w.from, w.ended);
     let used = p.used;
-    if !io::write_all(output, &room[..used]) {
+    if output.write_all(&room[..used]).is_err() {
         return Turn::Ended(Unpacked::NotWritten);
     }
     turned(p, w)
 }
 
 // Takes turns until the file is done.
-fn take_turns(input: i32, output: i32, block: &mut [u8], room: &mut [u8]) -> Unpacked
+fn take_turns<R: Read, W: Write>(
+    input: &mut R,
+    output: &mut W,
+    block: &mut [u8],
+    room: &mut [u8],
+) -> Unpacked
     requires { (length block.old ≤ 65536) × ((4140 ≤ length block.old) × (65536 ≤ length room.old)) }
 {
     let mut w = first_window();
     let mut turns = TURNS;
     while 0 < turns {
-        let turn = take_turn(input, output, &mut *block, &mut *room, w);
+        let turn = take_turn(&mut *input, &mut *output, &mut *block, &mut *room, w);
         match turn {
             Turn::Ended(unpacked) => return unpacked,
             Turn::On(next) => {
@@ -209,9 +221,9 @@ fn take_turns(input: i32, output: i32, block: &mut [u8], room: &mut [u8]) -> Unp
 }
 
 // Lends arrays as the block and the room. Their lengths are known by their types, and are not counted out.
-fn unpack_within(
-    input: i32,
-    output: i32,
+fn unpack_within<R: Read, W: Write>(
+    input: &mut R,
+    output: &mut W,
     block: &mut [u8; BLOCK],
     room: &mut [u8; BLOCK],
 ) -> Unpacked {
@@ -219,7 +231,7 @@ fn unpack_within(
 }
 
 // Writes the lines of the records of an event file, up to the file's end or to bytes that are no record.
-pub fn unpack(input: i32, output: i32) -> Unpacked {
+pub fn unpack<R: Read, W: Write>(input: &mut R, output: &mut W) -> Unpacked {
     let mut block = [0u8; BLOCK];
     let mut room = [0u8; BLOCK];
     unpack_within(input, output, &mut block, &mut room)

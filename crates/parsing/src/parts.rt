@@ -6,7 +6,6 @@ ghost use Rattle.wording.specs.Text.{value_text, field_text, exception_text};
 ghost use Rattle.parsing.specs.Places.{Whether, Begins, KindIn, ReadsAt};
 
 use crate::guessing::guess;
-use check::same;
 use scan::{Number, byte_end};
 use wording::{Style, put_kind, put_label, put_value, style_of};
 
@@ -22,6 +21,13 @@ const VALUE: usize = 27;
 pub enum Valued {
     Of(u64, usize),
     Nothing,
+}
+
+// Whether two texts are the same.
+fn same(one: &[u8], other: &[u8]) -> bool
+    ensures { Whether (one.now ≡ other.now) result }
+{
+    one == other
 }
 
 // Whether a text is the word of a kind.

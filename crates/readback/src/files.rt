@@ -10,18 +10,32 @@ use decoding::End;
 use fields::{Count, WIDTH};
 use ranges::Checked;
 use records::{Answer, Reading};
+use std::io::Write;
 
 // Puts a space and a field of a kind, in the form that the field has.
-fn put_field(text: &mut [u8; 65536], at: usize, kind: u64, field: usize, value: u64) -> usize {
+fn put_field<W: Write>(
+    output: &mut W,
+    text: &mut [u8; 65536],
+    at: usize,
+    kind: u64,
+    field: usize,
+    value: u64,
+) -> usize {
     if fields::is_signed(kind, field) {
-        put_signed(text, at, folding::unfold(value))
+        put_signed(&mut *output, text, at, folding::unfold(value))
     } else {
-        put_next(text, at, value)
+        put_next(&mut *output, text, at, value)
     }
 }
 
 // Puts the fields of a kind, each after a space.
-fn put_fields(text: &mut [u8; 65536], at: usize, kind: u64, values: [u64; WIDTH]) -> usize {
+fn put_fields<W: Write>(
+    output: &mut W,
+    text: &mut [u8; 65536],
+    at: usize,
+    kind: u64,
+    values: [u64; WIDTH],
+) -> usize {
     let Count::Of(count) = fields::count_of(kind) else {
         return at;
     };
@@ -31,22 +45,28 @@ fn put_fields(text: &mut [u8; 65536], at: usize, kind: u64, values: [u64; WIDTH]
     let mut next = at;
     let mut i: usize = 0;
     while i < count {
-        next = put_field(&mut *text, next, kind, i, values[i]);
+        next = put_field(&mut *output, &mut *text, next, kind, i, values[i]);
         i += 1;
     }
     next
 }
 
 // Puts `ok`, or the number of the refusal.
-fn put_checked(text: &mut [u8; 65536], at: usize, checked: Checked) -> usize {
+fn put_checked<W: Write>(
+    output: &mut W,
+    text: &mut [u8; 65536],
+    at: usize,
+    checked: Checked,
+) -> usize {
     match checked {
-        Checked::Passed => put_word(text, at, b" ok"),
-        Checked::Refused(number) => put_next(text, at, number),
+        Checked::Passed => put_word(&mut *output, text, at, b" ok"),
+        Checked::Refused(number) => put_next(&mut *output, text, at, number),
     }
 }
 
 // Puts the record's length if it is written back as it was read, and needs all of that room.
-fn put_written(
+fn put_written<W: Write>(
+    output: &mut W,
     text: &mut [u8; 65536],
     at: usize,
     record: &[u8],
@@ -55,13 +75,14 @@ fn put_written(
     exceptions: &[u64],
 ) -> usize {
     if !writes_back(record, kind, values, exceptions) {
-        return put_word(text, at, b" differs");
+        return put_word(&mut *output, text, at, b" differs");
     }
-    put_next(text, at, record.len() as u64)
+    put_next(&mut *output, text, at, record.len() as u64)
 }
 
 // Puts the line of a record that was read from just these bytes.
-fn put_record(
+fn put_record<W: Write>(
+    output: &mut W,
     text: &mut [u8; 65536],
     at: usize,
     record: &[u8],
@@ -69,20 +90,30 @@ fn put_record(
     values: [u64; WIDTH],
     exceptions: &[u64],
 ) -> usize {
-    let named = put_number(&mut *text, at, kind);
-    let filled = put_fields(&mut *text, named, kind, values);
-    let listed = put_list(&mut *text, filled, exceptions);
+    let named = put_number(&mut *output, &mut *text, at, kind);
+    let filled = put_fields(&mut *output, &mut *text, named, kind, values);
+    let listed = put_list(&mut *output, &mut *text, filled, exceptions);
     let checked = put_checked(
+        &mut *output,
         &mut *text,
         listed,
         ranges::in_range(kind, values, exceptions),
     );
-    let written = put_written(&mut *text, checked, record, kind, values, exceptions);
-    put_word(text, written, b"\n")
+    let written = put_written(
+        &mut *output,
+        &mut *text,
+        checked,
+        record,
+        kind,
+        values,
+        exceptions,
+    );
+    put_word(&mut *output, text, written, b"\n")
 }
 
 // Puts the line of a start, whose exceptions just fill the list lent and end where the record does.
-fn put_exceptions(
+fn put_exceptions<W: Write>(
+    output: &mut W,
     text: &mut [u8; 65536],
     at: usize,
     bytes: &[u8],
@@ -94,17 +125,26 @@ fn put_exceptions(
     requires { (from ≤ end) × (end ≤ length bytes.now) }
 {
     let End::Next(last) = decoding::read_numbers(bytes, reading.more, &mut *list) else {
-        return put_word(text, at, b"differs\n");
+        return put_word(&mut *output, text, at, b"differs\n");
     };
     if last != end {
-        return put_word(text, at, b"differs\n");
+        return put_word(&mut *output, text, at, b"differs\n");
     }
     let values = reading.fields;
-    put_record(text, at, &bytes[from..end], reading.kind, values, list)
+    put_record(
+        &mut *output,
+        text,
+        at,
+        &bytes[from..end],
+        reading.kind,
+        values,
+        list,
+    )
 }
 
 // Puts the line of a start, which announces at most 400 exceptions.
-fn put_start(
+fn put_start<W: Write>(
+    output: &mut W,
     text: &mut [u8; 65536],
     at: usize,
     bytes: &[u8],
@@ -117,14 +157,24 @@ fn put_start(
     let values = reading.fields;
     let count = values[2] as usize;
     if 400 < count {
-        return put_word(text, at, b"differs\n");
+        return put_word(&mut *output, text, at, b"differs\n");
     }
     let mut list = [0u64; 400];
-    put_exceptions(text, at, bytes, from, end, reading, &mut list[..count])
+    put_exceptions(
+        &mut *output,
+        text,
+        at,
+        bytes,
+        from,
+        end,
+        reading,
+        &mut list[..count],
+    )
 }
 
 // Puts the line of the record that was read from a place of the file to another.
-fn put_reading(
+fn put_reading<W: Write>(
+    output: &mut W,
     text: &mut [u8; 65536],
     at: usize,
     bytes: &[u8],
@@ -135,11 +185,12 @@ fn put_reading(
     requires { (from ≤ end) × (end ≤ length bytes.now) }
 {
     if reading.kind == 0 {
-        return put_start(text, at, bytes, from, end, reading);
+        return put_start(&mut *output, text, at, bytes, from, end, reading);
     }
     let values = reading.fields;
     let none = [0u64; 1];
     put_record(
+        &mut *output,
         text,
         at,
         &bytes[from..end],
@@ -150,50 +201,61 @@ fn put_reading(
 }
 
 // Puts the line that ends a file at a record that is refused.
-fn put_bad(text: &mut [u8; 65536], at: usize, place: usize) -> usize {
-    let placed = put_named(&mut *text, at, b"bad", place as u64);
-    put_word(text, placed, b"\n")
+fn put_bad<W: Write>(output: &mut W, text: &mut [u8; 65536], at: usize, place: usize) -> usize {
+    let placed = put_named(&mut *output, &mut *text, at, b"bad", place as u64);
+    put_word(&mut *output, text, placed, b"\n")
 }
 
 // Puts the lines of a file's records, up to its end or the first that is refused.
-fn put_records(text: &mut [u8; 65536], at: usize, bytes: &[u8]) -> usize {
+fn put_records<W: Write>(output: &mut W, text: &mut [u8; 65536], at: usize, bytes: &[u8]) -> usize {
     let mut put = at;
     let mut place: usize = 0;
     while place < bytes.len() {
         let reading = records::read_record(bytes, place);
         if !reads_alike(bytes, place, reading) {
-            return put_word(text, put, b"differs\n");
+            return put_word(&mut *output, text, put, b"differs\n");
         }
         let answer = reading.answer;
         match answer {
             Answer::Malformed(bad) => {
-                return put_bad(text, put, bad);
+                return put_bad(&mut *output, text, put, bad);
             }
             Answer::Next(next) => {
                 if next <= place {
-                    return put_word(text, put, b"differs\n");
+                    return put_word(&mut *output, text, put, b"differs\n");
                 }
                 if bytes.len() < next {
-                    return put_word(text, put, b"differs\n");
+                    return put_word(&mut *output, text, put, b"differs\n");
                 }
-                put = put_reading(&mut *text, put, bytes, place, next, reading);
+                put = put_reading(&mut *output, &mut *text, put, bytes, place, next, reading);
                 place = next;
             }
         }
     }
-    put_word(text, put, b"end\n")
+    put_word(&mut *output, text, put, b"end\n")
 }
 
 // Puts the lines of the file that the first bytes lent are.
-fn put_first(text: &mut [u8; 65536], at: usize, bytes: &[u8; 8192], count: usize) -> usize
+fn put_first<W: Write>(
+    output: &mut W,
+    text: &mut [u8; 65536],
+    at: usize,
+    bytes: &[u8; 8192],
+    count: usize,
+) -> usize
     requires { count ≤ 8192 }
 {
     let all: &[u8] = bytes;
-    put_records(text, at, &all[..count])
+    put_records(&mut *output, text, at, &all[..count])
 }
 
 // Puts the answer to a line of hex digits, an event file of at most 8,192 bytes.
-pub(crate) fn put_file(text: &mut [u8; 65536], at: usize, line: &[u8]) -> Place {
+pub(crate) fn put_file<W: Write>(
+    output: &mut W,
+    text: &mut [u8; 65536],
+    at: usize,
+    line: &[u8],
+) -> Place {
     if 16384 < line.len() {
         return Place::NoTest;
     }
@@ -204,5 +266,5 @@ pub(crate) fn put_file(text: &mut [u8; 65536], at: usize, line: &[u8]) -> Place 
     if !read_hex(line, &mut bytes) {
         return Place::NoTest;
     }
-    Place::After(put_first(text, at, &bytes, line.len() / 2))
+    Place::After(put_first(&mut *output, text, at, &bytes, line.len() / 2))
 }

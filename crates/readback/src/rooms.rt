@@ -5,6 +5,7 @@ use crate::lines::read_numbers;
 use crate::text::{Place, put_hex, put_named, put_word};
 use fields::WIDTH;
 use records::Written;
+use std::io::Write;
 
 // Whether two runs of bytes are the same.
 fn are_same(a: &[u8], b: &[u8]) -> bool {
@@ -84,22 +85,27 @@ pub(crate) fn writes_back(
 }
 
 // Puts what writing answered.
-fn put_written(text: &mut [u8; 65536], at: usize, written: Written) -> usize {
+fn put_written<W: Write>(
+    output: &mut W,
+    text: &mut [u8; 65536],
+    at: usize,
+    written: Written,
+) -> usize {
     match written {
-        Written::Done(length) => put_named(text, at, b"done", length as u64),
-        Written::Malformed(place) => put_named(text, at, b"no 1", place as u64),
-        Written::NoRoom => put_word(text, at, b"no 16"),
+        Written::Done(length) => put_named(&mut *output, text, at, b"done", length as u64),
+        Written::Malformed(place) => put_named(&mut *output, text, at, b"no 1", place as u64),
+        Written::NoRoom => put_word(&mut *output, text, at, b"no 16"),
     }
 }
 
 // Puts a space and a whole room, or nothing for an empty one, and ends the line.
-fn put_room(text: &mut [u8; 65536], at: usize, room: &[u8]) -> usize {
+fn put_room<W: Write>(output: &mut W, text: &mut [u8; 65536], at: usize, room: &[u8]) -> usize {
     if room.len() == 0 {
-        return put_word(text, at, b"\n");
+        return put_word(&mut *output, text, at, b"\n");
     }
-    let parted = put_word(&mut *text, at, b" ");
-    let shown = put_hex(&mut *text, parted, room);
-    put_word(text, shown, b"\n")
+    let parted = put_word(&mut *output, &mut *text, at, b" ");
+    let shown = put_hex(&mut *output, &mut *text, parted, room);
+    put_word(&mut *output, text, shown, b"\n")
 }
 
 // The thirteen fields that stand after the room and the kind.
@@ -116,7 +122,8 @@ fn fields_in(numbers: &[u64]) -> [u64; WIDTH]
 }
 
 // Puts what comes of writing a record into a room, and the room afterwards.
-fn put_room_after(
+fn put_room_after<W: Write>(
+    output: &mut W,
     text: &mut [u8; 65536],
     at: usize,
     room: &mut [u8],
@@ -125,12 +132,17 @@ fn put_room_after(
     exceptions: &[u64],
 ) -> usize {
     let written = records::write_record(&mut *room, kind, values, exceptions);
-    let answered = put_written(&mut *text, at, written);
-    put_room(text, answered, room)
+    let answered = put_written(&mut *output, &mut *text, at, written);
+    put_room(&mut *output, text, answered, room)
 }
 
 // Puts the answer to numbers that stand for a room's size, a kind, its fields and exceptions.
-fn put_attempt(text: &mut [u8; 65536], at: usize, numbers: &[u64]) -> Place
+fn put_attempt<W: Write>(
+    output: &mut W,
+    text: &mut [u8; 65536],
+    at: usize,
+    numbers: &[u64],
+) -> Place
     requires { 15 ≤ length numbers.now }
 {
     if 4096 < numbers[0] {
@@ -140,6 +152,7 @@ fn put_attempt(text: &mut [u8; 65536], at: usize, numbers: &[u64]) -> Place
     let values = fields_in(numbers);
     let mut room = [0xAAu8; 4096];
     Place::After(put_room_after(
+        &mut *output,
         text,
         at,
         &mut room[..size],
@@ -150,19 +163,30 @@ fn put_attempt(text: &mut [u8; 65536], at: usize, numbers: &[u64]) -> Place
 }
 
 // Puts the answer to the first numbers lent, if they are as many as a record has.
-fn put_first(text: &mut [u8; 65536], at: usize, numbers: &[u64; 465], count: usize) -> Place
+fn put_first<W: Write>(
+    output: &mut W,
+    text: &mut [u8; 65536],
+    at: usize,
+    numbers: &[u64; 465],
+    count: usize,
+) -> Place
     requires { count ≤ 465 }
 {
     if count < 15 {
         return Place::NoTest;
     }
     let all: &[u64] = numbers;
-    put_attempt(text, at, &all[..count])
+    put_attempt(&mut *output, text, at, &all[..count])
 }
 
 // Puts the answer to what stands after the `w` of a line: a record to be written, and how much room there is.
-pub(crate) fn put_writing(text: &mut [u8; 65536], at: usize, rest: &[u8]) -> Place {
+pub(crate) fn put_writing<W: Write>(
+    output: &mut W,
+    text: &mut [u8; 65536],
+    at: usize,
+    rest: &[u8],
+) -> Place {
     let mut numbers = [0u64; 465];
     let count = read_numbers(rest, &mut numbers);
-    put_first(text, at, &numbers, count)
+    put_first(&mut *output, text, at, &numbers, count)
 }

@@ -3,7 +3,8 @@
 // fails is passed over: what is printed is then short, and no run passes with it.
 ghost use Rattle.std.specs.Prelude.{◌<◌};
 
-use libc::STDOUT_FILENO;
+use decimal::digits_of;
+use std::io::Write;
 
 // Where a line's answer ends, or that the line is no test.
 #[derive(Clone, Copy)]
@@ -13,71 +14,102 @@ pub(crate) enum Place {
 }
 
 // Writes the text up to a place.
-pub(crate) fn write_text(text: &[u8; 65536], end: usize) -> bool {
+pub(crate) fn write_text<W: Write>(output: &mut W, text: &[u8; 65536], end: usize) -> bool {
     let all: &[u8] = text;
     if end < all.len() {
-        return io::write_all(STDOUT_FILENO, &all[..end]);
+        return output.write_all(&all[..end]).is_ok();
     }
-    io::write_all(STDOUT_FILENO, all)
+    output.write_all(all).is_ok()
 }
 
 // Puts a byte, at the start again once the text is full and written out.
-fn put_byte(text: &mut [u8; 65536], at: usize, byte: u8) -> usize {
+fn put_byte<W: Write>(output: &mut W, text: &mut [u8; 65536], at: usize, byte: u8) -> usize {
     if at < 65536 {
         text[at] = byte;
         return at + 1;
     }
-    write_text(&*text, at);
+    write_text(&mut *output, &*text, at);
     text[0] = byte;
     1
 }
 
 // Puts a word.
-pub(crate) fn put_word(text: &mut [u8; 65536], at: usize, word: &[u8]) -> usize {
+pub(crate) fn put_word<W: Write>(
+    output: &mut W,
+    text: &mut [u8; 65536],
+    at: usize,
+    word: &[u8],
+) -> usize {
     let mut next = at;
     let mut i: usize = 0;
     while i < word.len() {
-        next = put_byte(&mut *text, next, word[i]);
+        next = put_byte(&mut *output, &mut *text, next, word[i]);
         i += 1;
     }
     next
 }
 
 // Puts a number.
-pub(crate) fn put_number(text: &mut [u8; 65536], at: usize, number: u64) -> usize {
+pub(crate) fn put_number<W: Write>(
+    output: &mut W,
+    text: &mut [u8; 65536],
+    at: usize,
+    number: u64,
+) -> usize {
     let mut digits = [0u8; 20];
-    let count = io::decimal(number, &mut digits);
-    put_word(text, at, &digits[..count])
+    let count = digits_of(number, &mut digits);
+    put_word(&mut *output, text, at, &digits[..count])
 }
 
 // Puts a space and a number.
-pub(crate) fn put_next(text: &mut [u8; 65536], at: usize, number: u64) -> usize {
-    let next = put_byte(&mut *text, at, b' ');
-    put_number(text, next, number)
+pub(crate) fn put_next<W: Write>(
+    output: &mut W,
+    text: &mut [u8; 65536],
+    at: usize,
+    number: u64,
+) -> usize {
+    let next = put_byte(&mut *output, &mut *text, at, b' ');
+    put_number(&mut *output, text, next, number)
 }
 
 // Puts a word, a space and a number.
-pub(crate) fn put_named(text: &mut [u8; 65536], at: usize, word: &[u8], number: u64) -> usize {
-    let next = put_word(&mut *text, at, word);
-    put_next(text, next, number)
+pub(crate) fn put_named<W: Write>(
+    output: &mut W,
+    text: &mut [u8; 65536],
+    at: usize,
+    word: &[u8],
+    number: u64,
+) -> usize {
+    let next = put_word(&mut *output, &mut *text, at, word);
+    put_next(&mut *output, text, next, number)
 }
 
 // Puts a space and a signed number.
-pub(crate) fn put_signed(text: &mut [u8; 65536], at: usize, number: i64) -> usize {
+pub(crate) fn put_signed<W: Write>(
+    output: &mut W,
+    text: &mut [u8; 65536],
+    at: usize,
+    number: i64,
+) -> usize {
     let size = whole::size(number);
     if number < 0 {
-        let next = put_word(&mut *text, at, b" -");
-        return put_number(text, next, size);
+        let next = put_word(&mut *output, &mut *text, at, b" -");
+        return put_number(&mut *output, text, next, size);
     }
-    put_next(text, at, size)
+    put_next(&mut *output, text, at, size)
 }
 
 // Puts numbers, each after a space.
-pub(crate) fn put_list(text: &mut [u8; 65536], at: usize, list: &[u64]) -> usize {
+pub(crate) fn put_list<W: Write>(
+    output: &mut W,
+    text: &mut [u8; 65536],
+    at: usize,
+    list: &[u64],
+) -> usize {
     let mut next = at;
     let mut i: usize = 0;
     while i < list.len() {
-        next = put_next(&mut *text, next, list[i]);
+        next = put_next(&mut *output, &mut *text, next, list[i]);
         i += 1;
     }
     next
@@ -91,24 +123,29 @@ fn hex_digit(n: u8) -> u8
 }
 
 // Puts a byte as two hex digits.
-fn put_digits(text: &mut [u8; 65536], at: usize, byte: u8) -> usize {
-    let next = put_byte(&mut *text, at, hex_digit(byte / 16));
-    put_byte(text, next, hex_digit(byte % 16))
+fn put_digits<W: Write>(output: &mut W, text: &mut [u8; 65536], at: usize, byte: u8) -> usize {
+    let next = put_byte(&mut *output, &mut *text, at, hex_digit(byte / 16));
+    put_byte(&mut *output, text, next, hex_digit(byte % 16))
 }
 
 // Puts bytes as hex digits.
-pub(crate) fn put_hex(text: &mut [u8; 65536], at: usize, bytes: &[u8]) -> usize {
+pub(crate) fn put_hex<W: Write>(
+    output: &mut W,
+    text: &mut [u8; 65536],
+    at: usize,
+    bytes: &[u8],
+) -> usize {
     let mut next = at;
     let mut i: usize = 0;
     while i < bytes.len() {
-        next = put_digits(&mut *text, next, bytes[i]);
+        next = put_digits(&mut *output, &mut *text, next, bytes[i]);
         i += 1;
     }
     next
 }
 
 // Puts the line that ends a run on a line that is no test, and writes the text.
-pub(crate) fn end_badly(text: &mut [u8; 65536], at: usize) -> bool {
-    let end = put_word(&mut *text, at, b"bad input\n");
-    write_text(&*text, end)
+pub(crate) fn end_badly<W: Write>(output: &mut W, text: &mut [u8; 65536], at: usize) -> bool {
+    let end = put_word(&mut *output, &mut *text, at, b"bad input\n");
+    write_text(&mut *output, &*text, end)
 }

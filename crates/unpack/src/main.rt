@@ -1,15 +1,22 @@
 // Turns the event file on standard input into text on standard output (docs/GUIDE.md, 'A day as text').
-use libc::{STDERR_FILENO, STDIN_FILENO, STDOUT_FILENO};
-use packing::{Unpacked, unpack};
+#![tactic(auto)]
 
-fn main() {
-    let Unpacked::Damaged(place) = unpack(STDIN_FILENO, STDOUT_FILENO) else {
+use decimal::digits_of;
+use packing::{Unpacked, unpack};
+use std::io::Write;
+
+// Says at which byte a file is damaged.
+fn say_damaged<E: Write>(errors: &mut E, place: u64) {
+    let mut digits = [0u8; 20];
+    let count = digits_of(place, &mut digits);
+    let _ = errors.write_all(b"the file is damaged: no record can be read at byte ");
+    let _ = errors.write_all(&digits[..count]);
+    let _ = errors.write_all(b"\n");
+}
+
+fn main(rt: HostRuntime) {
+    let Unpacked::Damaged(place) = unpack(&mut rt.stdin(), &mut rt.stdout()) else {
         return;
     };
-    io::write_all(
-        STDERR_FILENO,
-        b"the file is damaged: no record can be read at byte ",
-    );
-    io::print_decimal(STDERR_FILENO, place);
-    io::write_all(STDERR_FILENO, b"\n");
+    say_damaged(&mut rt.stderr(), place);
 }

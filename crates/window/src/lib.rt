@@ -1,7 +1,11 @@
 // A file taken in blocks: which bytes of a block are read and not yet taken, and reading on behind them. No contract can say what is read.
 // What stays in hand, whatever is read, is `refill`'s to promise.
+#![tactic(auto)]
+
 ghost use Rattle.std.specs.Prelude.{◌+◌, ◌≤◌, ◌≡◌, false, length, take, drop};
 ghost use Rattle.window.specs.Window.{Within, Refilled};
+
+use std::io::Read;
 
 // The bytes of a block from `from` up to `to` are read and not yet taken. The first of them is at `place` in the file. `ended`: the file
 // has no more.
@@ -38,8 +42,26 @@ fn move_down(block: &mut [u8], from: usize, to: usize) -> usize
     moved
 }
 
+// Reads until the block is full, the file ends or a read fails, and answers how many bytes stand at the front of the block. A read that a
+// signal interrupts before it moves a byte counts as one that failed.
+pub fn read_full<R: Read>(input: &mut R, block: &mut [u8]) -> usize
+    ensures { result ≤ length block.new }
+{
+    let mut done: usize = 0;
+    while done < block.len() {
+        let Ok(got) = input.read(&mut block[done..]) else {
+            return done;
+        };
+        if got == 0 {
+            return done;
+        }
+        done += got;
+    }
+    done
+}
+
 // Reads on behind what is left, unless that is `enough`. A block that is not filled has the file's end.
-pub fn refill(input: i32, block: &mut [u8], w: Window, enough: usize) -> Window
+pub fn refill<R: Read>(input: &mut R, block: &mut [u8], w: Window, enough: usize) -> Window
     requires within { Within (length block.old) w }
     requires enough_in_bounds { enough ≤ length block.old }
     ensures { Refilled enough w block.old result block.new }
@@ -51,7 +73,7 @@ pub fn refill(input: i32, block: &mut [u8], w: Window, enough: usize) -> Window
         return w;
     }
     let left = move_down(&mut *block, w.from, w.to);
-    let got = io::read_full(input, &mut block[left..]);
+    let got = read_full(&mut *input, &mut block[left..]);
     let to = left + got;
     Window {
         from: 0,

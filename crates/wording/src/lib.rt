@@ -1,5 +1,7 @@
 // A record as a line of text (docs/GUIDE.md, 'A day as text'), put into lent room: its kind in a word, then each field after what says
 // which it is. Each function puts something at a place and answers the place after it; the rest of the room stays.
+#![tactic(auto)]
+
 mod labels;
 mod record_line;
 mod values;

@@ -1,0 +1,14 @@
+use Rattle.fields.specs.FieldLaws.{none_below}
+use Rattle.wording.specs.TextLaws.{last_row}
+use Rattle.wording.proofs.labels.put_start_label.Goals as goal
+
+pub returns-in-0 : goal.returns-in-0
+returns-in-0 c = rw c.in-0.is c.put_word.ensures
+
+pub returns-in-1 : goal.returns-in-1
+returns-in-1 c = rw c.in-1.is c.put_word-in-1.ensures
+
+pub returns-in-2-to-max : goal.returns-in-2-to-max
+returns-in-2-to-max c =
+    let put = c.before.before in
+    rw (last_row (none_below 2 _ c.in-2-to-max.in-2-to-max-own.rest) c.requires.0) c.put_word-in-2-to-max.ensures

@@ -1,0 +1,46 @@
+-- After i turns the first i fields are put.
+use mathlib.Core.Path.{◌≡◌, refl}
+use mathlib.Core.List.{List}
+use Prim.Native.Nat.{ℕ, ◌+◌, ◌≤◌, ◌<◌}
+use native.Mathlib.Omega.{arith}
+use lib.ListN.{length, take, length-take}
+use Rattle.fields.specs.Fields.{count}
+use Rattle.wording.specs.Text.{fields_text}
+use Rattle.wording.specs.TextLaws.{field-length, fields-length}
+use Rattle.wording.specs.WalkLaws.{fields-more, walk_begins, walk-room, walk-next}
+use Rattle.wording.proofs.record_line.put_fields.Goals as goal
+
+-- there is room for one field more
+left : (kind i at size : ℕ) (fields : List ℕ) → i < 13 → at + 507 ≤ size → at + (length (fields_text kind 0 (take i fields)) + 39) ≤ size
+left kind i at size fields more room =
+    let done = take i fields in
+    let few : length done ≤ 12 = omega (arith, length-take i fields) in
+    omega (arith, fields-length kind 0 done)
+
+pub loop-i-init : goal.loop-i-init
+unfolding fields_text
+loop-i-init c = let a = c.args in (omega arith, walk_begins (λ k. fields_text a.kind 0 (take k a.fields)) a.room.now a.at refl)
+
+pub put_field-next-requires : goal.put_field-next-requires
+put_field-next-requires c =
+    let a = c.args in (
+      omega (arith, c.requires.0),
+      walk-room 39 (left a.kind c.loop-i.i a.at (length a.room.now) a.fields (omega (arith, c.requires.1.0)) c.requires.1.1) c.loop-i.invariant.1,
+    )
+
+pub loop-i-preserved : goal.loop-i-preserved
+loop-i-preserved c =
+    let a = c.args in
+    let i = c.loop-i.i in (
+      omega arith,
+      walk-next 39 (left a.kind i a.at (length a.room.now) a.fields (omega (arith, c.requires.1.0)) c.requires.1.1) c.loop-i.invariant.1
+          (field-length a.kind i _) (fields-more a.kind a.fields i (omega (arith, c.requires.1.0))) c.put_field-next.ensures,
+    )
+
+pub shape_of-room : goal.shape_of-room
+shape_of-room c = c.loop-i.invariant.1.same
+
+pub returns : goal.returns
+returns c =
+    let all : c.loop-i.i ≡ count c.args.kind = omega (arith, c.requires.0) in
+    rw all at c.loop-i.invariant.1.put

@@ -1,0 +1,8 @@
+use native.Mathlib.Omega.{arith}
+use Rattle.decimal.specs.PutLaws.{put-more}
+use Rattle.wording.proofs.values.put_four.Goals as goal
+
+pub returns : goal.returns
+returns c =
+    let second = c.before.before in
+    put-more (omega (arith, c.requires)) c.put_two-next.ensures c.put_two.ensures
