@@ -1,9 +1,12 @@
 // Explains a close of the event file on standard input to one account (docs/GUIDE.md, 'Explain a call').
+#![tactic(auto)]
+
 use explaining::explain;
-use libc::{STDIN_FILENO, STDOUT_FILENO};
 use memory::{COUNTS, MONEY};
 use pages::Question;
 use scan::{Number, number_in};
+use std::env::{Env, FillError};
+use std::io::{Read, Write};
 
 // What an argument says: a number, that it is left out, the word `last`, or something else.
 #[derive(Clone, Copy)]
@@ -46,13 +49,22 @@ fn argument_in(text: &[u8]) -> Argument {
 }
 
 // The argument at a place.
-fn argument_at(i: usize) -> Argument {
-    if os::arg_count() <= i {
-        return Argument::Missing;
+fn argument_at<R: Env>(rt: &R, i: usize) -> Argument {
+    let mut text = [0u8; 4096];
+    match rt.arg(i, &mut text) {
+        Ok(length) => argument_in(&text[..length]),
+        Err(FillError::TooLong) => Argument::Wrong,
+        Err(FillError::NotPresent) => Argument::Missing,
     }
-    let mut text = io::buffer();
-    let length = os::arg(i, &mut text);
-    argument_in(&text[..length])
+}
+
+// Whether there is an argument at a place.
+fn is_given<R: Env>(rt: &R, i: usize) -> bool {
+    let mut text = [0u8; 1];
+    match rt.arg(i, &mut text) {
+        Err(FillError::NotPresent) => false,
+        _ => true,
+    }
 }
 
 // A question about all contracts at the last close.
@@ -67,57 +79,66 @@ fn about(account: u64) -> Question {
 }
 
 // Answers a question.
-fn answer(q: Question) {
+fn answer<R: Read, W: Write>(q: Question, input: &mut R, output: &mut W) {
     let mut counts = [0u64; COUNTS];
     let mut money = [0i64; MONEY];
-    let _written = explain(&mut counts, &mut money, q, STDIN_FILENO, STDOUT_FILENO);
+    let _written = explain(&mut counts, &mut money, q, input, output);
 }
 
-fn say_usage() {
-    io::write_all(
-        STDOUT_FILENO,
-        b"usage: explain ACCOUNT [DAY [CODE]] < FILE\n",
-    );
+fn say_usage<W: Write>(output: &mut W) {
+    let _said = output
+        .write_all(b"usage: explain ACCOUNT [DAY [CODE]] < FILE\n")
+        .is_ok();
 }
 
 // Answers a question whose code is an argument.
-fn answer_code(q: Question, code: Argument) {
+fn answer_code<R: Read, W: Write>(q: Question, code: Argument, input: &mut R, output: &mut W) {
     let mut x = q;
     match code {
-        Argument::Missing => answer(q),
+        Argument::Missing => answer(q, input, output),
         Argument::Of(number) => {
             x.one_code = true;
             x.code = number;
-            answer(x);
+            answer(x, input, output);
         }
-        Argument::Last => say_usage(),
-        Argument::Wrong => say_usage(),
+        Argument::Last => say_usage(output),
+        Argument::Wrong => say_usage(output),
     }
 }
 
 // Answers a question whose day is an argument.
-fn answer_day(q: Question, day: Argument, code: Argument) {
+fn answer_day<R: Read, W: Write>(
+    q: Question,
+    day: Argument,
+    code: Argument,
+    input: &mut R,
+    output: &mut W,
+) {
     let mut x = q;
     match day {
-        Argument::Missing => answer(q),
-        Argument::Last => answer_code(q, code),
+        Argument::Missing => answer(q, input, output),
+        Argument::Last => answer_code(q, code, input, output),
         Argument::Of(number) => {
             x.one_day = true;
             x.day = number;
-            answer_code(x, code);
+            answer_code(x, code, input, output);
         }
-        Argument::Wrong => say_usage(),
+        Argument::Wrong => say_usage(output),
     }
 }
 
-fn main() {
-    if 4 < os::arg_count() {
-        say_usage();
+fn main(rt: HostRuntime) {
+    let mut input = rt.stdin();
+    let mut output = rt.stdout();
+    if is_given(&rt, 4) {
+        say_usage(&mut output);
         return;
     }
-    let Argument::Of(account) = argument_at(1) else {
-        say_usage();
+    let Argument::Of(account) = argument_at(&rt, 1) else {
+        say_usage(&mut output);
         return;
     };
-    answer_day(about(account), argument_at(2), argument_at(3));
+    let day = argument_at(&rt, 2);
+    let code = argument_at(&rt, 3);
+    answer_day(about(account), day, code, &mut input, &mut output);
 }

@@ -12,6 +12,7 @@ use crate::followed::{Found, State, first_state, take_record};
 use book::new_book;
 use memory::{COUNTS, MONEY};
 use pages::{Question, put_damaged, put_no_account, put_no_close, put_no_contract};
+use std::io::{Read, Write};
 use window::{Window, first_window, refill};
 
 // How many bytes of the file are held at a time.
@@ -123,7 +124,7 @@ fn turned(w: Window, s: State) -> Turn
 }
 
 // A turn: reads on where it must and follows what it can.
-fn take_turn(
+fn take_turn<R: Read>(
     counts: &mut [u64; COUNTS],
     money: &mut [i64; MONEY],
     labels: &mut [u64],
@@ -131,7 +132,7 @@ fn take_turn(
     notes: &mut [u8],
     page: &mut [u8],
     block: &mut [u8],
-    input: i32,
+    input: &mut R,
     q: Question,
     before: Window,
     s: State,
@@ -161,7 +162,7 @@ fn take_turn(
 }
 
 // Takes turns until the file is done.
-fn take_turns(
+fn take_turns<R: Read>(
     counts: &mut [u64; COUNTS],
     money: &mut [i64; MONEY],
     labels: &mut [u64],
@@ -169,7 +170,7 @@ fn take_turns(
     notes: &mut [u8],
     page: &mut [u8],
     block: &mut [u8],
-    input: i32,
+    input: &mut R,
     q: Question,
 ) -> Outcome
     requires followable { Followable q.account counts.old money.old labels.old amounts.old 0 }
@@ -188,7 +189,7 @@ fn take_turns(
             &mut *notes,
             &mut *page,
             &mut *block,
-            input,
+            &mut *input,
             q,
             w,
             s,
@@ -229,15 +230,15 @@ fn put_outcome(page: &mut [u8], q: Question, outcome: Outcome) -> usize {
 }
 
 // Writes the first bytes of a page.
-fn write_page(page: &[u8], length: usize, output: i32) -> bool {
+fn write_page<W: Write>(page: &[u8], length: usize, output: &mut W) -> bool {
     if page.len() < length {
         return false;
     }
-    io::write_all(output, &page[..length])
+    output.write_all(&page[..length]).is_ok()
 }
 
 // Lends arrays as the table, the notes, the page and the block. Their lengths are known by their types, and are not counted out.
-fn explain_within(
+fn explain_within<R: Read, W: Write>(
     counts: &mut [u64; COUNTS],
     money: &mut [i64; MONEY],
     labels: &mut [u64; ROW_COUNTS],
@@ -246,8 +247,8 @@ fn explain_within(
     page: &mut [u8; PAGE],
     block: &mut [u8; BLOCK],
     q: Question,
-    input: i32,
-    output: i32,
+    input: &mut R,
+    output: &mut W,
 ) -> bool
     requires { Holds counts.old money.old (rows_of new) }
     ensures { Sound counts.new money.new }
@@ -261,12 +262,12 @@ fn explain_within(
 
 // Follows the file that `input` reads, on a new book, and writes the explanation that is asked for, or why there is none. It answers whether
 // all of it was written. The memory lent is then that of the book after the file's records, as far as they were read.
-pub fn explain(
+pub fn explain<R: Read, W: Write>(
     counts: &mut [u64; COUNTS],
     money: &mut [i64; MONEY],
     q: Question,
-    input: i32,
-    output: i32,
+    input: &mut R,
+    output: &mut W,
 ) -> bool
     ensures { Sound counts.new money.new }
 {

@@ -1,6 +1,6 @@
 -- The numbers of a list in rising order: none is lost, none is added, and the one that is lowest from a number on follows those before it.
 use Rattle.std.specs.Prelude.{◌≡◌, refl, Bool, true, false, cond, ◌||◌, List, [], ◌∷◌, ◌++◌, ℕ, suc, ◌+◌, ◌≤◌, ◌<◌, ltb, eqb, length}
-use Rattle.std.proofs.Common.{sym, ap, ◌∙◌, arith, ltb-true, ltb-false, lt-ltb, le-ltb}
+use Rattle.std.proofs.Common.{sym, ap, subst, ◌∙◌, arith, ltb-true, ltb-false, lt-ltb, le-ltb}
 use Rattle.std.proofs.Math.Bool.{or_assoc, or_comm, or_self_left}
 use Rattle.lists.specs.Has.{has}
 use Rattle.lists.specs.HasLaws.{by_test, clash, has_first, has-later, has-each, those-all}
@@ -109,13 +109,13 @@ before-next from k (n ∷ ns) r l = by_test (ltb n from)
     rw (e, lt-ltb n (k + 1) (omega (arith, l.reached)), before-next from k ns r.1 (passed_over from k n ns l low)))
     (λ e. let q : from ≤ n = ltb-false n from e in
     let same : k ≡ n = come-to from k n ns l r q in
-    rw (
+    subst (λ m. before (m + 1) (n ∷ ns) ≡ before from (n ∷ ns) ++ (m ∷ [])) (sym same)
+    (rw (
       e,
-      same,
       lt-ltb n (n + 1) (omega arith),
       before-none (n + 1) ns (λ m t. omega (arith, r.0 m t)),
       before-none from ns (λ m t. omega (arith, r.0 m t)),
-    ))
+    )))
 
 -- ---- a walk over some keys
 module _ (keys : List ℕ) where

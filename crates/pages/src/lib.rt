@@ -1,5 +1,7 @@
 // The page of an explanation (docs/GUIDE.md, 'Explain a call'): what it says of each contract and each trade, of the account's money, of the call
 // and of refused trades, put into lent room.
+#![tactic(auto)]
+
 mod account;
 mod answers;
 mod close_page;

@@ -2,7 +2,7 @@
 ghost use Rattle.std.specs.Prelude.{◌+◌, ◌≤◌, ◌<◌, length};
 ghost use Rattle.pages.specs.Pieces.{Short};
 
-use decimal::{put_number, put_signed, put_word};
+use decimal::{digits_of, put_number, put_signed, put_word};
 use whole::size;
 use wording::{put_rate, put_time};
 
@@ -73,7 +73,7 @@ fn put_grouped(room: &mut [u8], at: usize, number: u64) -> usize
     ensures { result ≤ at + 40 }
 {
     let mut digits = [0u8; 20];
-    let count = io::decimal(number, &mut digits);
+    let count = digits_of(number, &mut digits);
     let mut next = at;
     let mut i: usize = 0;
     while i < count {

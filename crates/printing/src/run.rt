@@ -9,6 +9,7 @@ ghost use Rattle.printing.specs.Blocks.{Enough, Follows, PrintedUpTo, TurnedTo, 
 use crate::one_record::{Printed, print_record};
 use book::new_book;
 use memory::{COUNTS, MONEY};
+use std::io::{Read, Write};
 use window::{Window, first_window, refill};
 
 // How many bytes of the file are held at a time, and how many of the text.
@@ -143,11 +144,11 @@ fn turned(p: Progress, w: Window) -> Turn
 }
 
 // A turn: reads on where it must, prints what it can, and writes that.
-fn take_turn(
+fn take_turn<R: Read, W: Write>(
     counts: &mut [u64; COUNTS],
     money: &mut [i64; MONEY],
-    input: i32,
-    output: i32,
+    input: &mut R,
+    output: &mut W,
     block: &mut [u8],
     room: &mut [u8],
     before: Window,
@@ -159,22 +160,22 @@ fn take_turn(
     ensures goes_on { GoesOn (length block.old) before.place result }
     ensures turn_taken { TurnTaken counts.old money.old before block.old result counts.new money.new block.new room.new }
 {
-    let w = refill(input, &mut *block, before, LONGEST);
+    let w = refill(&mut *input, &mut *block, before, LONGEST);
     let to = w.to;
     let p = print_block(counts, money, &block[..to], &mut *room, w);
     let used = p.used;
-    if !io::write_all(output, &room[..used]) {
+    if !output.write_all(&room[..used]).is_ok() {
         return Turn::Ended(false);
     }
     turned(p, w)
 }
 
 // Takes turns until the file is done or a write fails, and answers whether all was written.
-fn take_turns(
+fn take_turns<R: Read, W: Write>(
     counts: &mut [u64; COUNTS],
     money: &mut [i64; MONEY],
-    input: i32,
-    output: i32,
+    input: &mut R,
+    output: &mut W,
     block: &mut [u8],
     room: &mut [u8],
 ) -> bool
@@ -184,7 +185,9 @@ fn take_turns(
     let mut w = first_window();
     let mut turns = TURNS;
     while 0 < turns {
-        let turn = take_turn(counts, money, input, output, &mut *block, &mut *room, w);
+        let turn = take_turn(
+            &mut *counts, &mut *money, &mut *input, &mut *output, &mut *block, &mut *room, w,
+        );
         match turn {
             Turn::Ended(written) => return written,
             Turn::On(next) => {
@@ -197,11 +200,11 @@ fn take_turns(
 }
 
 // Lends arrays as the block and the room. Their lengths are known by their types, and are not counted out.
-fn run_within(
+fn run_within<R: Read, W: Write>(
     counts: &mut [u64; COUNTS],
     money: &mut [i64; MONEY],
-    input: i32,
-    output: i32,
+    input: &mut R,
+    output: &mut W,
     block: &mut [u8; BLOCK],
     room: &mut [u8; BLOCK],
 ) -> bool
@@ -213,11 +216,11 @@ fn run_within(
 
 // Prints the day of the file that `input` reads, on a new book, and answers whether all of it was written. The memory lent is then that of the
 // book after the file's records, as far as they were read.
-pub fn run_day(
+pub fn run_day<R: Read, W: Write>(
     counts: &mut [u64; COUNTS],
     money: &mut [i64; MONEY],
-    input: i32,
-    output: i32,
+    input: &mut R,
+    output: &mut W,
 ) -> bool
     ensures { Sound counts.new money.new }
 {

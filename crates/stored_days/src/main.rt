@@ -1,37 +1,44 @@
 // Prints the days of the event files that its arguments name, each under a line with the file's name.
-use libc::STDOUT_FILENO;
+#![tactic(auto)]
+
 use memory::{COUNTS, MONEY};
 use printing::run_day;
+use std::env::{Env, FillError};
+use std::fs;
+use std::io::{self, Write};
+use std::rt::Files;
 
 // Prints the day of one file, and answers whether all of it was written. A file that cannot be opened is named, and the next one is tried.
-fn print_file(path: &[u8]) -> bool {
-    io::write_all(STDOUT_FILENO, path);
-    let input = os::open_read(path);
-    if input < 0 {
-        return io::write_all(STDOUT_FILENO, b" cannot be read\n");
-    }
-    io::write_all(STDOUT_FILENO, b"\n");
+fn print_file<R: Files + Print>(rt: &R, path: &[u8]) -> bool {
+    let mut output = io::writer(rt);
+    let _named = output.write_all(path).is_ok();
+    let Ok(name) = str::from_utf8(path) else {
+        return output.write_all(b" cannot be read\n").is_ok();
+    };
+    let Ok(file) = fs::open(rt, name) else {
+        return output.write_all(b" cannot be read\n").is_ok();
+    };
+    let mut input = file;
+    let _ended = output.write_all(b"\n").is_ok();
     let mut counts = [0u64; COUNTS];
     let mut money = [0i64; MONEY];
-    let written = run_day(&mut counts, &mut money, input, STDOUT_FILENO);
-    libc::close(input);
-    written
+    run_day(&mut counts, &mut money, &mut input, &mut output)
 }
 
-// Prints the file that an argument names.
-fn print_argument(i: usize) -> bool {
-    let mut path = io::buffer();
-    let length = os::arg(i, &mut path);
-    print_file(&path[..length])
+// Prints the file that an argument names, and answers whether the next one is to be printed. An argument that is too long names no file.
+fn print_argument<R: Files + Env + Print>(rt: &R, i: usize) -> bool {
+    let mut path = [0u8; 4096];
+    match rt.arg(i, &mut path) {
+        Ok(length) => print_file(rt, &path[..length]),
+        Err(FillError::TooLong) => print_file(rt, b""),
+        Err(FillError::NotPresent) => false,
+    }
 }
 
-fn main() {
-    let count = os::arg_count();
-    let mut i: usize = 1;
-    while i < count {
-        if !print_argument(i) {
+fn main(rt: HostRuntime) {
+    for i in 1..usize::MAX {
+        if !print_argument(&rt, i) {
             return;
         }
-        i += 1;
     }
 }

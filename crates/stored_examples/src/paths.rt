@@ -1,7 +1,10 @@
 // The files of an example: its name, and an ending for what the file holds.
 ghost use Rattle.std.specs.Prelude.{◌≤◌};
 
+use crate::files::{Input, Output};
 use decimal::put_word;
+use std::fs;
+use std::rt::Files;
 
 // A path by value.
 #[derive(Clone, Copy)]
@@ -27,33 +30,45 @@ fn path_of(name: &[u8], ending: &[u8]) -> Path
 }
 
 // Opens the file at the first bytes of a text to read it.
-fn open_first(text: &[u8; 256], length: usize) -> i32
+fn open_first<R: Files>(rt: &R, text: &[u8; 256], length: usize) -> Input<R::File>
     requires { length ≤ 256 }
 {
     let all: &[u8] = text;
-    os::open_read(&all[..length])
+    let Ok(name) = str::from_utf8(&all[..length]) else {
+        return Input::Missing;
+    };
+    match fs::open(rt, name) {
+        Ok(file) => Input::Open(file),
+        Err(_) => Input::Missing,
+    }
 }
 
 // Opens the file at the first bytes of a text to write it from its start.
-fn start_first(text: &[u8; 256], length: usize) -> i32
+fn start_first<R: Files>(rt: &R, text: &[u8; 256], length: usize) -> Output<R::File>
     requires { length ≤ 256 }
 {
     let all: &[u8] = text;
-    os::open_overwrite(&all[..length])
+    let Ok(name) = str::from_utf8(&all[..length]) else {
+        return Output::Missing;
+    };
+    match fs::create(rt, name) {
+        Ok(file) => Output::Open(file),
+        Err(_) => Output::Missing,
+    }
 }
 
 // Opens a file of an example to read it.
-pub(crate) fn open(name: &[u8], ending: &[u8]) -> i32 {
+pub(crate) fn open<R: Files>(rt: &R, name: &[u8], ending: &[u8]) -> Input<R::File> {
     let path = path_of(name, ending);
     let length = path.length;
     let text = path.text;
-    open_first(&text, length)
+    open_first(rt, &text, length)
 }
 
 // Opens a file of an example to write it from its start.
-pub(crate) fn start(name: &[u8], ending: &[u8]) -> i32 {
+pub(crate) fn start<R: Files>(rt: &R, name: &[u8], ending: &[u8]) -> Output<R::File> {
     let path = path_of(name, ending);
     let length = path.length;
     let text = path.text;
-    start_first(&text, length)
+    start_first(rt, &text, length)
 }
