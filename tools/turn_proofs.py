@@ -86,6 +86,7 @@ class Names:
 
     def step(self, place, field):
         """The nearest place at or above place whose step is field."""
+        field = field.strip("«»")
         for word in (field, re.sub(r"_lem$", "", field), field[:1].lower() + field[1:]):
             p, it = self.step_named(place, word)
             if p:
@@ -251,7 +252,7 @@ class Turner:
         env = {v: (v, p, origin or self.n.new_place[p]) for v, p in env.items()}
         bound = {}
         out, at = [], 0
-        word = re.compile(r"(?<![\w'.⟨₀-])([A-Za-z_][\w'₀-]*)((?:\.[\w'₀-]+)*)")
+        word = re.compile(r"(?<![\w'.⟨₀-])([A-Za-z_][\w'₀-]*)((?:\.[\w'₀«»-]+)*)")
         for m in word.finditer(text):
             var, tail = m.group(1), m.group(2)
             before, after = text[:m.start()], text[m.end():]

@@ -63,11 +63,11 @@ module _ {counts counts' : List ℕ} {money money' : List ℤ} where
 
   pub traded-dealt : {t : Trade} (r : Dealt) → Traded counts money t r counts' money'
       → Answered counts money (trade t) (dealt r) counts' money'
-  traded-dealt {t} r h = record { answers = deal-says _ r ∙ h.answers; memory = h.memory }
+  traded-dealt {t} r h = let b = view counts money in record { answers = deal-says (kept (decided b (trade t)) b (trade t)) r ∙ h.answers; memory = h.memory }
 
   pub open-answered : {o : Opening} (r : Opened) → standing.Answered counts money (opening o) (open_answer r) counts' money'
       → Answered counts money (opening o) (opened r) counts' money'
-  open-answered {o} r h = record { answers = open-says _ r ∙ h.answers; memory = h.memory }
+  open-answered {o} r h = let b = view counts money in record { answers = open-says (kept (decided b (opening o)) b (opening o)) r ∙ h.answers; memory = h.memory }
 
 -- ---- a record on a sound memory
 -- one that is called on a book's memory is the book's next call

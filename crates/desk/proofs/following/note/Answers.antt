@@ -31,7 +31,7 @@ returns-in-Done c =
 pub returns-in-BothSides : goal.returns-in-BothSides
 returns-in-BothSides c =
     let a = c.args in
-    subst (λ x. Tabled x a.account (trade_in a.fields) a.labels.now a.amounts.now a.used c.note_trade.new.0 c.note_trade.new.1.0 c.note_trade.result)
+    subst (λ x. Tabled x a.account (trade_in a.fields) a.labels.now a.amounts.now a.used c.note_trade.new.labels c.note_trade.new.amounts c.note_trade.result)
     (sym c.in-BothSides.is)
     c.note_trade.ensures
 
