@@ -3,7 +3,7 @@ use Rattle.std.specs.Prelude.{ℕ, ◌+◌, ◌≤◌}
 use Rattle.lists.specs.Keep.{cond-keeps}
 use Rattle.holdings.specs.Bounds.{Granted, GoodReference}
 use Rattle.holdings.specs.Bounds as holdings
-use Rattle.holdings.specs.BoundLaws as holds
+use Rattle.holdings.proofs.BoundLaws as holds
 use Rattle.holdings.specs.declared.Limits.{Limits}
 use Rattle.closing.specs.DayEnd.{at_close, full_core, with_core}
 use Rattle.closing.specs.Bounds.{GoodDayEnd}

@@ -12,8 +12,8 @@ use Rattle.model.specs.Refusals.{first_of, ranged, tests, refusal}
 use Rattle.model.specs.Answers.{kept, called, accepts, answered, answer}
 use Rattle.model.specs.History.{run_from}
 use Rattle.model.specs.Kept.{Kept}
-use Rattle.model.specs.KeptLaws.{kept-called, kept_run}
-use Rattle.model.specs.OpenDayLaws.{plainly}
+use Rattle.model.proofs.KeptLaws.{kept-called, kept_run}
+use Rattle.model.proofs.OpenDayLaws.{plainly}
 use Rattle.standing.specs.Standing.{rows_of, view}
 use Rattle.standing.specs.Made.{Sound, decided, Made}
 use Rattle.standing.specs.Made as standing

@@ -20,7 +20,7 @@ use Rattle.records.specs.Files.{writings, AllWhole, nothing-there}
 use Rattle.memory.specs.Memory.{Holds}
 use Rattle.model.specs.Book.{new}
 use Rattle.model.specs.History.{run_from, run}
-use Rattle.model.specs.KeptLaws.{kept_new, known}
+use Rattle.model.proofs.KeptLaws.{kept_new, known}
 use Rattle.standing.specs.Standing.{rows_of, view}
 use Rattle.standing.specs.Made.{Sound}
 use Rattle.standing.specs.StandingLaws.{sound-of}

@@ -9,9 +9,9 @@ use Rattle.model.specs.Book.{Book, new}
 use Rattle.model.specs.Answers.{answer}
 use Rattle.model.specs.History.{run_from, run}
 use Rattle.model.specs.Promises.{Promises}
-use Rattle.model.specs.PromiseLaws.{promises}
+use Rattle.model.proofs.PromiseLaws.{promises}
 use Rattle.model.specs.Kept.{Kept}
-use Rattle.model.specs.KeptLaws.{kept_new, kept_run}
+use Rattle.model.proofs.KeptLaws.{kept_new, kept_run}
 use Rattle.standing.specs.Standing.{rows_of, view}
 use Rattle.standing.specs.Made.{Sound}
 use Rattle.standing.specs.StandingLaws.{view-is, sound-of}

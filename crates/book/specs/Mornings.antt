@@ -9,7 +9,7 @@ use Rattle.model.specs.Refusals.{refusal}
 use Rattle.model.specs.Answers.{called, answer}
 use Rattle.model.specs.Kept.{Kept}
 use Rattle.model.specs.Neighbours.{AlikeButCash, OthersSame, SameMorning, unpaid}
-use Rattle.model.specs.NeighbourLaws.{one-default, house-apart}
+use Rattle.model.proofs.NeighbourLaws.{one-default, house-apart}
 use Rattle.standing.specs.Standing.{view}
 use Rattle.standing.specs.Made.{Sound}
 use Rattle.standing.specs.StandingLaws.{sound-kept}

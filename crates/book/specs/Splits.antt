@@ -6,8 +6,8 @@ use Rattle.model.specs.Book.{Book}
 use Rattle.model.specs.Refusals.{refusal}
 use Rattle.model.specs.Answers.{called}
 use Rattle.model.specs.Tickets.{Split, Tickets, SplitAlike, Offered, second_refusal}
-use Rattle.model.specs.TicketLaws.{same_end}
-use Rattle.model.specs.SplitLaws.{what-parts-meet}
+use Rattle.model.proofs.TicketLaws.{same_end}
+use Rattle.model.proofs.SplitLaws.{what-parts-meet}
 use Rattle.standing.specs.Standing.{view}
 use Rattle.book.specs.declared.calls.Answer.{Answer}
 use Rattle.book.specs.Called.{Called}

@@ -10,12 +10,12 @@ use Rattle.whole.specs.Round.{hundredth_up}
 use Rattle.whole.specs.Amounts.{Amount, amount-ind, amount-pos, amount-+, amount-widen, amount-larger, amount-smaller}
 use Rattle.booking.specs.Carried.{all_carried}
 use Rattle.positions.specs.Bounds.{Kept}
-use Rattle.totals.specs.BoundLaws.{total-amount}
+use Rattle.totals.proofs.BoundLaws.{total-amount}
 use Rattle.booking.specs.BoundLaws.{carried-kept, variation-within}
 use Rattle.holdings.specs.Holdings.{basis}
 use Rattle.holdings.specs.Bounds.{GoodReference, Sound}
 use Rattle.holdings.specs.declared.Holdings.{Holdings}
-use Rattle.holdings.specs.BoundLaws.{basis-amount}
+use Rattle.holdings.proofs.BoundLaws.{basis-amount}
 use Rattle.closing.specs.DayEnd.{at_close, over_limit, requirement, full_core, with_core, core_by}
 use Rattle.closing.specs.declared.DayEnd.{DayEnd}
 use Rattle.closing.specs.Bounds.{GoodDayEnd}

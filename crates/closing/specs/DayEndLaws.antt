@@ -6,7 +6,7 @@ use Rattle.whole.specs.Parts.{parts₂, zarith}
 use Rattle.whole.specs.Order.{pos-nonneg, *ℤ-nonneg}
 use Rattle.whole.specs.Larger.{larger, larger-above, ring-larger}
 use Rattle.whole.specs.Round.{hundredth_up}
-use Rattle.whole.specs.RoundLaws.{hundredth-nonneg}
+use Rattle.whole.proofs.RoundLaws.{hundredth-nonneg}
 use Rattle.closing.specs.DayEnd.{over_limit}
 
 pub over-nonneg : (total basis : ℤ) (multiplier : ℕ) → pos 0 ≤ℤ over_limit total basis multiplier

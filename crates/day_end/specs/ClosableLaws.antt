@@ -6,7 +6,7 @@ use Rattle.lists.specs.PaddedLaws.{take-padded, padded-keeps}
 use Rattle.whole.specs.Within.{Within}
 use Rattle.days.specs.Days.{rising}
 use Rattle.tallies.specs.Bounds as tallies
-use Rattle.tallies.specs.TallyLaws.{none-sound}
+use Rattle.tallies.proofs.TallyLaws.{none-sound}
 use Rattle.closing.specs.Bounds.{GoodDayEnd}
 use Rattle.funds.specs.Bounds.{days_most}
 use Rattle.accounts.specs.Bounds as accounts
@@ -17,7 +17,7 @@ use Rattle.model.specs.Book.{Book}
 use Rattle.model.specs.Refusals.{is_open}
 use Rattle.model.specs.HeldLaws.{open-sound, good-end}
 use Rattle.model.specs.Kept.{Kept}
-use Rattle.model.specs.KeptLaws.{kept-bounded, kept-six}
+use Rattle.model.proofs.KeptLaws.{kept-bounded, kept-six}
 use Rattle.standing.specs.Standing.{contract_row, rows_of}
 use Rattle.standing.specs.MemberLaws.{member-row, open_row}
 use Rattle.standing.specs.CloseRowLaws.{day-end-is}

@@ -8,7 +8,7 @@ use Rattle.tallies.specs.Bounds.{Sound}
 use Rattle.positions.specs.Bounds.{Nets}
 use Rattle.positions.specs.Deals.{flat}
 use Rattle.holdings.specs.Bounds as holdings
-use Rattle.holdings.specs.BoundLaws.{trade-nets}
+use Rattle.holdings.proofs.BoundLaws.{trade-nets}
 use Rattle.holdings.specs.Holdings.{with_trade}
 use Rattle.accounts.specs.Accounts.{with_holdings}
 use Rattle.accounts.specs.declared.Account.{Account}
@@ -20,7 +20,7 @@ use Rattle.memory.specs.MemoryLaws.{memory-long, contract-is, put-account, accou
 use Rattle.model.specs.Book.{Book, positions_of, margins_of}
 use Rattle.model.specs.Calls.{Trade}
 use Rattle.model.specs.Effects.{lots_for, traded}
-use Rattle.model.specs.KeptLaws.{kept-few}
+use Rattle.model.proofs.KeptLaws.{kept-few}
 use Rattle.model.specs.Kept.{Kept}
 use Rattle.standing.specs.Standing.{account_row, contract_row, rows_of, view}
 use Rattle.standing.specs.StandingLaws.{sound-kept, sound-holds}

@@ -9,7 +9,7 @@ use Rattle.model.specs.Calls.{Trade, trade}
 use Rattle.model.specs.Effects.{traded}
 use Rattle.model.specs.Refusals.{needs, first_of, is_open, in_hours, side_totals}
 use Rattle.model.specs.Answers.{answered}
-use Rattle.model.specs.OpenDayLaws.{plainly}
+use Rattle.model.proofs.OpenDayLaws.{plainly}
 use Rattle.standing.specs.Made.{decided}
 use Rattle.standing.specs.DealLaws.{Between}
 use Rattle.hours.specs.Searched.{has_here}

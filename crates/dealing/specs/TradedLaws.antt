@@ -14,7 +14,7 @@ use Rattle.model.specs.Effects.{traded, after}
 use Rattle.model.specs.Refusals.{needs, first_of, side_totals}
 use Rattle.model.specs.Answers.{refused, both_sides, answered, kept, refusal_of}
 use Rattle.model.specs.Kept.{Kept}
-use Rattle.model.specs.OpenDayLaws.{refusing-number}
+use Rattle.model.proofs.OpenDayLaws.{refusing-number}
 use Rattle.standing.specs.Standing.{account_row, rows_of, view}
 use Rattle.standing.specs.Made.{decided, Sound}
 use Rattle.standing.specs.StandingLaws.{sound-holds}

@@ -22,8 +22,8 @@ use Rattle.model.specs.History.{run_from, step, run, log, noted, at_trade}
 use Rattle.model.specs.StepLaws.{accepted-by}
 use Rattle.model.specs.Ranged.{Ranged}
 use Rattle.model.specs.RangeLaws.{ranges}
-use Rattle.model.specs.OpenDayLaws.{refusing-number}
-use Rattle.model.specs.KeptLaws.{kept_new, known}
+use Rattle.model.proofs.OpenDayLaws.{refusing-number}
+use Rattle.model.proofs.KeptLaws.{kept_new, known}
 use Rattle.standing.specs.Standing.{rows_of, view}
 use Rattle.standing.specs.Made.{Sound}
 use Rattle.standing.specs.StandingLaws.{view-is, sound-of}

@@ -30,10 +30,10 @@ use Rattle.model.specs.StepLaws.{Passed, needed, accepted-by}
 use Rattle.model.specs.Ranged.{Ranged}
 use Rattle.model.specs.RangeLaws.{ranges}
 use Rattle.model.specs.RefusalLaws.{accepted-called}
-use Rattle.model.specs.ListedLaws.{settled-open}
+use Rattle.model.proofs.ListedLaws.{settled-open}
 use Rattle.model.specs.TermLaws.{rate-fair}
-use Rattle.model.specs.KeptLaws.{known, kept-six}
-use Rattle.model.specs.CloseLaws.{closes_kept}
+use Rattle.model.proofs.KeptLaws.{known, kept-six}
+use Rattle.model.proofs.CloseLaws.{closes_kept}
 use Rattle.standing.specs.Standing.{view}
 use Rattle.standing.specs.Made.{Sound}
 use Rattle.standing.specs.StandingLaws.{view-is, sound-of}

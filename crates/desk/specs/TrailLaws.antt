@@ -28,10 +28,10 @@ use Rattle.model.specs.StepLaws.{Passed, needed, accepted-by, induct}
 use Rattle.model.specs.Ranged.{GoodTrade, Ranged}
 use Rattle.model.specs.RangeLaws.{ranges}
 use Rattle.model.specs.Kept.{Framed}
-use Rattle.model.specs.FrameLaws.{shut-closed}
-use Rattle.model.specs.VariationLaws.{before-is}
-use Rattle.model.specs.KeptLaws.{known}
-use Rattle.model.specs.CloseLaws.{closes_kept}
+use Rattle.model.proofs.FrameLaws.{shut-closed}
+use Rattle.model.proofs.VariationLaws.{before-is}
+use Rattle.model.proofs.KeptLaws.{known}
+use Rattle.model.proofs.CloseLaws.{closes_kept}
 use Rattle.trail.specs.declared.Row.{Row}
 use Rattle.trail.specs.Rows.{deal_of, earned}
 use Rattle.trail.specs.Tables.{Modest}

@@ -36,7 +36,7 @@ use Rattle.model.specs.Refusals.{first_of, refusal}
 use Rattle.model.specs.History as history
 use Rattle.model.specs.History.{booked, moved_to, has_ended}
 use Rattle.model.specs.Entries.{settles}
-use Rattle.model.specs.CourseLaws.{after_all, steps_of, refusals, Course, Runs, further, further-runs, opened, opened-runs, at_start, start-runs}
+use Rattle.model.proofs.CourseLaws.{after_all, steps_of, refusals, Course, Runs, further, further-runs, opened, opened-runs, at_start, start-runs}
 use Rattle.examples.specs.Alive.{enrol_and_pay, last_day, pay_and_close, Alive}
 
 -- ---- part by part: each call passes

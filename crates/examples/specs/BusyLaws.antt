@@ -14,8 +14,8 @@ use Rattle.model.specs.History.{run_from, run}
 use Rattle.model.specs.StepLaws.{Passed, passed_first, needed, accepted-by}
 use Rattle.model.specs.RefusalLaws.{accepted-called}
 use Rattle.model.specs.Tickets.{exchanged}
-use Rattle.model.specs.TicketLaws.{adds-up}
-use Rattle.model.specs.SplitLaws.{trade-left}
+use Rattle.model.proofs.TicketLaws.{adds-up}
+use Rattle.model.proofs.SplitLaws.{trade-left}
 use Rattle.examples.specs.Tickets.{again}
 
 -- ---- a book with another number of trades and other tallies

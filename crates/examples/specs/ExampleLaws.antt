@@ -42,7 +42,7 @@ use Rattle.model.specs.Calls.{call_of}
 use Rattle.model.specs.Effects.{after}
 use Rattle.model.specs.Refusals.{first_of, refusal}
 use Rattle.model.specs.Entries.{settles, closes}
-use Rattle.model.specs.CourseLaws.{after_all, steps_of, refusals, Course, Runs, further, further-runs, opened, opened-runs, at_start, start-runs}
+use Rattle.model.proofs.CourseLaws.{after_all, steps_of, refusals, Course, Runs, further, further-runs, opened, opened-runs, at_start, start-runs}
 use Rattle.model.specs.Examples.{enrol_and_pay, settle_and_trade, lines_to, PrintedDay, Marked}
 
 -- ---- part by part: each call passes

@@ -30,8 +30,8 @@ use Rattle.model.specs.Effects.{after}
 use Rattle.model.specs.Refusals.{first_of, refusal}
 use Rattle.model.specs.History.{run_from, run}
 use Rattle.model.specs.Entries.{pays_in, settles}
-use Rattle.model.specs.NeighbourLaws.{payment-apart}
-use Rattle.model.specs.CourseLaws.{after_all, refusals, Course, Runs, further, further-runs}
+use Rattle.model.proofs.NeighbourLaws.{payment-apart}
+use Rattle.model.proofs.CourseLaws.{after_all, refusals, Course, Runs, further, further-runs}
 use Rattle.examples.specs.Alive.{rolled}
 use Rattle.examples.specs.AliveLaws.{at1358, runs-1358, default-runs}
 use Rattle.examples.specs.Mornings.{TwoMornings}

@@ -32,10 +32,10 @@ use Rattle.model.specs.Effects.{traded, after}
 use Rattle.model.specs.Refusals.{first_of, refusal}
 use Rattle.model.specs.History.{run_from, run}
 use Rattle.model.specs.Entries.{closes}
-use Rattle.model.specs.CourseLaws.{after_all, refusals, Course, Runs, further, further-runs, opened, opened-runs, at_start, start-runs}
+use Rattle.model.proofs.CourseLaws.{after_all, refusals, Course, Runs, further, further-runs, opened, opened-runs, at_start, start-runs}
 use Rattle.model.specs.Tickets.{Split, whole, exchanged, InOrder, second_refusal, PartsAnswered}
-use Rattle.model.specs.SplitLaws.{what-parts-meet, as_written}
-use Rattle.model.specs.KeptLaws.{known}
+use Rattle.model.proofs.SplitLaws.{what-parts-meet, as_written}
+use Rattle.model.proofs.KeptLaws.{known}
 use Rattle.examples.specs.ExampleLaws.{six, listing-1339, listing-1342}
 use Rattle.examples.specs.Tickets.{enrol_two, buys, sells, open_day, go_short, MeetsLimit, busy, FindsFull, last_hour, ChangesRule}
 use Rattle.examples.specs.BusyLaws.{Recounted, still-passes, many-times}

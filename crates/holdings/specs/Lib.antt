@@ -1,5 +1,4 @@
 pub mod Holdings
 pub mod Limits
 pub mod Bounds
-pub mod BoundLaws
 pub mod LimitLaws

@@ -11,7 +11,7 @@ use Rattle.whole.specs.Order.{≤ℤ-total}
 use Rattle.whole.specs.Tests.{lt_yes, lt-true}
 use Rattle.positions.specs.Deals.{flat, dealt, with_deal}
 use Rattle.positions.specs.Beyond.{is_beyond}
-use Rattle.totals.specs.TotalLaws.{total-reduced}
+use Rattle.totals.proofs.TotalLaws.{total-reduced}
 use Rattle.holdings.specs.Holdings.{with_trade}
 use Rattle.holdings.specs.Limits.{totals_of, is_over, by_totals, side_of, refusal_of}
 use Rattle.holdings.specs.declared.Holdings.{Holdings}

@@ -7,7 +7,7 @@ use Rattle.model.specs.Refusals.{refusal}
 use Rattle.model.specs.Answers.{Answer, refused, not_next, done, both_sides, report, answer, refusal_of}
 use Rattle.model.specs.History.{run}
 use Rattle.model.specs.Promises.{NextDay}
-use Rattle.model.specs.PromiseLaws.{promises}
+use Rattle.model.proofs.PromiseLaws.{promises}
 use Rattle.lines.specs.Lines.{no, line, refusal_text, answer_text}
 
 pub refusal-says : (kind k : ℕ) (a : Answer) → (refusal_of a).number ≡ suc k → answer_text kind a ≡ refusal_text kind (refusal_of a)

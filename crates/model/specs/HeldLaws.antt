@@ -15,7 +15,7 @@ use Rattle.positions.specs.declared.Position.{Position}
 use Rattle.holdings.specs.Bounds.{Granted, GoodReference}
 use Rattle.holdings.specs.Bounds as holdings
 use Rattle.holdings.specs.Holdings.{new_holdings, with_limits, with_special}
-use Rattle.holdings.specs.BoundLaws.{new-sound, limits-sound, special-sound}
+use Rattle.holdings.proofs.BoundLaws.{new-sound, limits-sound, special-sound}
 use Rattle.holdings.specs.declared.Limits.{Limits}
 use Rattle.holdings.specs.declared.Holdings.{Holdings}
 use Rattle.closing.specs.Bounds.{GoodDayEnd}

@@ -8,7 +8,7 @@ use Rattle.tallies.specs.Day.{in_last_hour}
 use Rattle.tallies.specs.Means.{weighted}
 use Rattle.tallies.specs.Tally.{tally_from, side_in, in_day, in_hour, with_trade, in_side, with_quote}
 use Rattle.tallies.specs.Bounds as tallies
-use Rattle.tallies.specs.TallyLaws.{trade-keeps, quote-keeps, none-sound}
+use Rattle.tallies.proofs.TallyLaws.{trade-keeps, quote-keeps, none-sound}
 use Rattle.tallies.specs.declared.Weighted.{Weighted}
 use Rattle.tallies.specs.declared.Tally.{Tally}
 use Rattle.rates.specs.RuleLaws.{rate-within}

@@ -13,7 +13,7 @@ use Rattle.whole.specs.Within.{Within, within-neg, wider, lit}
 use Rattle.positions.specs.Bounds.{Margins, Nets}
 use Rattle.positions.specs.Deals.{flat, dealt, with_deal}
 use Rattle.holdings.specs.Bounds as holdings
-use Rattle.holdings.specs.BoundLaws.{trade-nets}
+use Rattle.holdings.proofs.BoundLaws.{trade-nets}
 use Rattle.holdings.specs.Holdings.{with_trade}
 use Rattle.holdings.specs.Limits.{totals_of}
 use Rattle.holdings.specs.declared.Holdings.{Holdings}
@@ -27,7 +27,7 @@ use Rattle.model.specs.Effects.{lots_for, traded}
 use Rattle.model.specs.Ranged.{GoodTrade}
 use Rattle.model.specs.Refusals.{is_open, side_totals}
 use Rattle.model.specs.Kept.{Kept}
-use Rattle.model.specs.KeptLaws.{kept-once, kept-six, kept-few}
+use Rattle.model.proofs.KeptLaws.{kept-once, kept-six, kept-few}
 use Rattle.standing.specs.Standing.{account_row, view}
 use Rattle.standing.specs.Made.{Sound}
 use Rattle.standing.specs.StandingLaws.{sound-kept, sound-holds}

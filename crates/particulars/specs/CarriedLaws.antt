@@ -21,7 +21,7 @@ use Rattle.memory.specs.Layout.{header_at, contract_money_at, code_at, number_at
 use Rattle.memory.specs.MemoryLaws.{contract-is, code_is}
 use Rattle.model.specs.Book.{Book}
 use Rattle.model.specs.Kept.{Kept}
-use Rattle.model.specs.KeptLaws.{kept-few}
+use Rattle.model.proofs.KeptLaws.{kept-few}
 use Rattle.standing.specs.Standing.{contract_row, account_row, rows_of, view}
 use Rattle.standing.specs.Made.{Sound}
 use Rattle.standing.specs.StandingLaws.{sound-kept, sound-holds}

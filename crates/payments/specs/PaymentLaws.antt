@@ -16,7 +16,7 @@ use Rattle.model.specs.Effects.{paid, after}
 use Rattle.model.specs.Refusals.{first_of}
 use Rattle.model.specs.Answers.{kept}
 use Rattle.model.specs.Kept.{Kept}
-use Rattle.model.specs.KeptLaws.{kept-bounded}
+use Rattle.model.proofs.KeptLaws.{kept-bounded}
 use Rattle.standing.specs.Standing.{account_row, rows_of, view}
 use Rattle.standing.specs.Made as standing
 use Rattle.standing.specs.StandingLaws.{sound-kept, sound-holds}

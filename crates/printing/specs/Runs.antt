@@ -4,7 +4,7 @@ use Rattle.std.specs.Prelude.{true, false, List, ◌++◌, ℕ, ℤ}
 use Rattle.numbers.specs.Below.{Small}
 use Rattle.memory.specs.Memory.{Holds}
 use Rattle.model.specs.Book.{new}
-use Rattle.model.specs.KeptLaws.{kept_new}
+use Rattle.model.proofs.KeptLaws.{kept_new}
 use Rattle.standing.specs.Standing.{rows_of, view}
 use Rattle.standing.specs.StandingLaws.{view-is}
 use Rattle.window.specs.declared.Window.{Window}

@@ -11,7 +11,7 @@ use Rattle.model.specs.Book.{Book, is_listed}
 use Rattle.model.specs.Calls.{Quote, quote}
 use Rattle.model.specs.Effects.{quoted, after}
 use Rattle.model.specs.Refusals.{first_of, is_open, in_hours}
-use Rattle.model.specs.KeptLaws.{kept-few}
+use Rattle.model.proofs.KeptLaws.{kept-few}
 use Rattle.standing.specs.Standing.{contract_row, rows_of, view}
 use Rattle.standing.specs.Made.{Sound, Made}
 use Rattle.standing.specs.StandingLaws.{refused-made, sound-kept, sound-holds}

@@ -9,7 +9,7 @@ use Rattle.whole.specs.Larger.{larger, smaller, larger-above, smaller-below}
 use Rattle.whole.specs.Order.{≤ℤ-trans, pos-nonneg, +ℤ-mono, *ℤ-mono}
 use Rattle.whole.specs.Ring.{add-mulℤ}
 use Rattle.whole.specs.Round.{on_tie}
-use Rattle.whole.specs.RoundLaws.{on_tie-rule, rounded-least, rounded-most}
+use Rattle.whole.proofs.RoundLaws.{on_tie-rule, rounded-least, rounded-most}
 use Rattle.whole.specs.Sums.{sum_z}
 use Rattle.tallies.specs.Means.{by_lots, mean_of, once, total, worth}
 use Rattle.tallies.specs.Day.{Trade, Quote, late_trades, last_five, bids_of, offers_of}

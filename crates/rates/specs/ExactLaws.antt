@@ -5,7 +5,7 @@ use Rattle.std.proofs.Math.IntN.{*ℤ_comm}
 use Rattle.whole.specs.Expand.{*ℤ-left, expand}
 use Rattle.whole.specs.Parts.{parts₃, ring, zarith}
 use Rattle.whole.specs.Round.{on_tie}
-use Rattle.whole.specs.RoundLaws.{on_tie-scaled, rounded-same}
+use Rattle.whole.proofs.RoundLaws.{on_tie-scaled, rounded-same}
 use Rattle.whole.specs.Within.{lit, widen, within-+, within-*}
 use Rattle.tallies.specs.Bounds.{Fair}
 use Rattle.tallies.specs.declared.Mean.{Mean}

@@ -8,7 +8,7 @@ use Rattle.std.proofs.Math.ListN.{length}
 use Rattle.std.proofs.lemmas.List.{length-map}
 use Rattle.std.proofs.Math.Seq.{drop-append-add}
 use Rattle.lists.specs.Rows.{drop-map}
-use Rattle.whole.specs.RoundLaws.{rounded-within, on_tie-rule}
+use Rattle.whole.proofs.RoundLaws.{rounded-within, on_tie-rule}
 use Rattle.whole.specs.Round.{on_tie}
 use Rattle.whole.specs.Within.{Within}
 use Rattle.tallies.specs.Means.{by_lots, mean_of, once}
@@ -16,7 +16,7 @@ use Rattle.tallies.specs.Day.{Trade, Quote, late_trades, last_five, bids_of, off
 use Rattle.tallies.specs.Tally.{none, latest_of, tally_from, tally_of, side_in}
 use Rattle.tallies.specs.Bounds.{GoodDay, Fair, Sound}
 use Rattle.tallies.specs.MeanLaws.{once-weigh, weight-most, fair-of}
-use Rattle.tallies.specs.TallyLaws.{day-sound}
+use Rattle.tallies.proofs.TallyLaws.{day-sound}
 use Rattle.tallies.specs.declared.Mean.{Mean}
 use Rattle.tallies.specs.declared.Tally.{Tally}
 use Rattle.rates.specs.Settling.{Divides, rate_from, rule_from, settled_from, used_from}

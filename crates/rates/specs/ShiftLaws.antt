@@ -11,7 +11,7 @@ use Rattle.lists.specs.All.{All}
 use Rattle.lists.specs.Rows.{drop-map}
 use Rattle.lists.specs.Those.{those-map}
 use Rattle.whole.specs.Expand.{expand}
-use Rattle.whole.specs.RoundLaws.{rounded-more}
+use Rattle.whole.proofs.RoundLaws.{rounded-more}
 use Rattle.whole.specs.Sums.{sum_z}
 use Rattle.tallies.specs.Means.{by_lots, mean_of, mean_with, once, total}
 use Rattle.tallies.specs.Day.{Trade, Quote, in_last_hour, late_trades, last_five, counted, bids_of, offers_of}

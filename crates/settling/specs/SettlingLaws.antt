@@ -34,7 +34,7 @@ use Rattle.model.specs.Effects.{paid_to, after}
 use Rattle.model.specs.Refusals.{needs, first_of, stage, allowed}
 use Rattle.model.specs.Bounds.{all_booked}
 use Rattle.model.specs.Kept.{Kept}
-use Rattle.model.specs.KeptLaws.{kept-bounded}
+use Rattle.model.proofs.KeptLaws.{kept-bounded}
 use Rattle.standing.specs.Standing.{header_row, account_row, rows_of, view}
 use Rattle.standing.specs.Made.{Sound, decided, Made}
 use Rattle.standing.specs.StandingLaws.{rows-shaped, refused-made}

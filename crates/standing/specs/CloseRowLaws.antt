@@ -31,9 +31,9 @@ use Rattle.memory.specs.Rows.{blank_contract, blank_outcome, blank_account}
 use Rattle.model.specs.Book.{Book, Terms, no_terms, no_tally, is_member, positions_of, besides}
 use Rattle.model.specs.Effects.{is_ending, mark_of, day_end_of, closed_at, codes_left, closed_day}
 use Rattle.model.specs.Refusals.{is_open}
-use Rattle.model.specs.EndLaws.{has_ending, codes-left}
+use Rattle.model.proofs.EndLaws.{has_ending, codes-left}
 use Rattle.model.specs.Kept.{Kept}
-use Rattle.model.specs.KeptLaws.{kept-six}
+use Rattle.model.proofs.KeptLaws.{kept-six}
 use Rattle.standing.specs.Standing.{contract_row, outcome_row, account_row, rows_of}
 use Rattle.standing.specs.MemberLaws.{open_row}
 use Rattle.standing.specs.WalkLaws.{walk_end}

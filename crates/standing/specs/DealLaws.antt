@@ -18,7 +18,7 @@ use Rattle.positions.specs.Bounds.{Margins}
 use Rattle.positions.specs.Deals.{flat, dealt, with_deal}
 use Rattle.positions.specs.Beyond.{is_beyond}
 use Rattle.holdings.specs.Bounds as holdings
-use Rattle.holdings.specs.BoundLaws.{sound-wider}
+use Rattle.holdings.proofs.BoundLaws.{sound-wider}
 use Rattle.holdings.specs.Holdings.{with_trade}
 use Rattle.holdings.specs.Limits.{by_totals, side_of}
 use Rattle.holdings.specs.declared.Side.TheVariants.{Beyond}
@@ -33,10 +33,10 @@ use Rattle.model.specs.Book.{Book, holding, positions_of, holdings_of, margins_o
 use Rattle.model.specs.Calls.{Trade, Quote}
 use Rattle.model.specs.Effects.{lots_for, traded, quoted}
 use Rattle.model.specs.Refusals.{is_open, side_totals}
-use Rattle.model.specs.FrameLaws.{bystander-still}
+use Rattle.model.proofs.FrameLaws.{bystander-still}
 use Rattle.model.specs.HeldLaws.{holdings-sound, margins-good}
 use Rattle.model.specs.Kept.{Kept}
-use Rattle.model.specs.KeptLaws.{kept-once, kept-six}
+use Rattle.model.proofs.KeptLaws.{kept-once, kept-six}
 use Rattle.standing.specs.Standing.{header_row, contract_row, account_row, rows_of}
 use Rattle.standing.specs.StandingLaws.{rows-shaped}
 use Rattle.standing.specs.MemberLaws.{listed-row}

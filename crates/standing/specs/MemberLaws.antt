@@ -30,7 +30,7 @@ use Rattle.model.specs.Book.{Book, Held, is_member, holding, besides, positions_
 use Rattle.model.specs.Effects.{with_held, enrolled, paid}
 use Rattle.model.specs.Refusals.{is_open}
 use Rattle.model.specs.Kept.{Kept}
-use Rattle.model.specs.KeptLaws.{kept-few, kept-six}
+use Rattle.model.proofs.KeptLaws.{kept-few, kept-six}
 use Rattle.standing.specs.Standing.{header_row, contract_row, outcome_row, account_row, rows_of}
 use Rattle.standing.specs.StandingLaws.{rows-shaped}
 

@@ -25,7 +25,7 @@ use Rattle.model.specs.Book.{Book, Terms, no_terms, is_listed, working, holding,
 use Rattle.model.specs.Calls.{Opening}
 use Rattle.model.specs.Effects.{terms_after, codes_on, opened}
 use Rattle.model.specs.Kept.{Kept}
-use Rattle.model.specs.KeptLaws.{kept-few}
+use Rattle.model.proofs.KeptLaws.{kept-few}
 use Rattle.standing.specs.Standing.{contract_row, account_row, rows_of}
 use Rattle.standing.specs.MemberLaws.{listed-row}
 use Rattle.standing.specs.WalkLaws.{walk_end}

@@ -9,7 +9,7 @@ use Rattle.memory.specs.Layout.{Long, header_at, with_header, house_at}
 use Rattle.memory.specs.Memory.{Rows, Shaped, with_header_row}
 use Rattle.memory.specs.MemoryLaws.{header_is, house-is, exceptions-part, memory-long, put-header, header-shaped}
 use Rattle.model.specs.Refusals.{needs, first_of}
-use Rattle.model.specs.KeptLaws.{kept-few}
+use Rattle.model.proofs.KeptLaws.{kept-few}
 use Rattle.standing.specs.Standing.{header_row, rows_of, view}
 use Rattle.standing.specs.Made.{Sound}
 use Rattle.standing.specs.StandingLaws.{rows-shaped, sound-kept, sound-holds}

@@ -24,7 +24,7 @@ use Rattle.model.specs.Book.{Book, Point, unstarted, unopened, unsettled, settle
 use Rattle.model.specs.Calls.{Call}
 use Rattle.model.specs.Refusals.{stage}
 use Rattle.model.specs.Kept.{Framed, Kept}
-use Rattle.model.specs.KeptLaws.{kept-few}
+use Rattle.model.proofs.KeptLaws.{kept-few}
 use Rattle.standing.specs.Standing.{contract_row, outcome_row, account_row, rows_of, point_of, rule_of, terms_of, settled_of, book_of, view}
 use Rattle.standing.specs.Made.{Sound, decided, Made}
 

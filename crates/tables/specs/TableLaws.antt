@@ -18,8 +18,8 @@ use Rattle.model.specs.Answers.{called, refusing, answer}
 use Rattle.model.specs.History.{run_from, run, answers_to}
 use Rattle.model.specs.RefusalLaws.{refused-same, accepted-called}
 use Rattle.model.specs.Kept.{Framed}
-use Rattle.model.specs.FrameLaws.{framed-new}
-use Rattle.model.specs.KeptLaws.{known}
+use Rattle.model.proofs.FrameLaws.{framed-new}
+use Rattle.model.proofs.KeptLaws.{known}
 use Rattle.model.specs.Examples.{Line, ok, lines_of, lines_to, printed}
 use Rattle.tables.specs.Tables.{Table, book, tabled, moved, walk}
 

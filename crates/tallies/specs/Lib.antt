@@ -3,4 +3,3 @@ pub mod Means
 pub mod Tally
 pub mod Bounds
 pub mod MeanLaws
-pub mod TallyLaws

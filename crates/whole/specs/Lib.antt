@@ -10,5 +10,4 @@ pub mod Sizes
 pub mod Larger
 pub mod Amounts
 pub mod Round
-pub mod RoundLaws
 pub mod Over

@@ -6,7 +6,7 @@ use mir.Val.{to_z, of_z}
 use Rattle.whole.specs.Machine.{arg, told, passed}
 use Rattle.whole.specs.Amounts.{Amount}
 use Rattle.holdings.specs.Bounds as holdings
-use Rattle.holdings.specs.BoundLaws.{sound-wider}
+use Rattle.holdings.proofs.BoundLaws.{sound-wider}
 use Rattle.closing.specs.DayEnd.{at_close, requirement, with_core_by}
 use Rattle.closing.specs.BoundLaws.{close-sound, requirement-amount}
 use Rattle.funds.specs.Funds.{billed}

@@ -6,7 +6,7 @@ use mir.Val.{to_z, of_z}
 use Rattle.whole.specs.Machine.{Got, got, arg, told, held, kept, fits, add}
 use Rattle.whole.specs.Amounts.{Amount, amount-within}
 use Rattle.holdings.specs.Holdings.{basis}
-use Rattle.holdings.specs.BoundLaws.{basis-amount}
+use Rattle.holdings.proofs.BoundLaws.{basis-amount}
 use Rattle.closing.specs.DayEnd.{over_limit, requirement}
 use Rattle.closing.specs.BoundLaws.{over-amount}
 use Rattle.closing.proofs.requirement.Goals as goal

@@ -11,7 +11,7 @@ use Rattle.model.specs.Book.{Book}
 use Rattle.model.specs.Calls.{close}
 use Rattle.model.specs.Effects.{after}
 use Rattle.model.specs.Refusals.{stage, is_open}
-use Rattle.model.specs.ListedLaws.{settled-open}
+use Rattle.model.proofs.ListedLaws.{settled-open}
 use Rattle.standing.specs.Standing.{rows_of, view}
 use Rattle.standing.specs.StandingLaws.{refused-made, sound-kept}
 use Rattle.standing.specs.SoundLaws.{sound-whole, sound-long, sound-header, first-passed, first-failed, none_left}

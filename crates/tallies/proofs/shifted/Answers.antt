@@ -1,4 +1,4 @@
-use Rattle.tallies.specs.TallyLaws.{shifted-is}
+use Rattle.tallies.proofs.TallyLaws.{shifted-is}
 use Rattle.tallies.proofs.shifted.Goals as goal
 
 pub returns : goal.returns

@@ -5,7 +5,7 @@ use Rattle.whole.specs.Machine.{arg}
 use Rattle.tallies.specs.Day.{in_last_hour}
 use Rattle.tallies.specs.Means.{weighted}
 use Rattle.tallies.specs.Tally.{in_side}
-use Rattle.tallies.specs.TallyLaws.{quote-early, quote-counts, quote-of-no-side}
+use Rattle.tallies.proofs.TallyLaws.{quote-early, quote-counts, quote-of-no-side}
 use Rattle.tallies.specs.declared.Weighted.{Weighted}
 use Rattle.tallies.proofs.with_quote.Goals as goal
 use Rattle.tallies.proofs.with_quote.Goals.{Else-not-in_last_hour, Start}

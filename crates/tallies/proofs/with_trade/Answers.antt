@@ -4,7 +4,7 @@ use Rattle.whole.specs.Machine.{arg, pass}
 use Rattle.tallies.specs.Means.{weighted}
 use Rattle.tallies.specs.Tally.{in_day, in_hour}
 use Rattle.tallies.specs.MeanLaws.{fair-wider}
-use Rattle.tallies.specs.TallyLaws.{trade-late, trade-early}
+use Rattle.tallies.proofs.TallyLaws.{trade-late, trade-early}
 use Rattle.tallies.specs.declared.Weighted.{Weighted}
 use Rattle.tallies.proofs.with_trade.Goals as goal
 use Rattle.tallies.proofs.with_trade.Goals.{After-in_day-x, Start}

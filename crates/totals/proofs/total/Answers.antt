@@ -9,7 +9,7 @@ use Rattle.whole.specs.Machine.{Got, got, kept, fits}
 use Rattle.whole.specs.Sums.{sum_z, sum-none}
 use Rattle.positions.specs.Rows.{row_more, rows_all}
 use Rattle.totals.specs.Totals.{asked, total}
-use Rattle.totals.specs.BoundLaws.{asked-each}
+use Rattle.totals.proofs.BoundLaws.{asked-each}
 use Rattle.totals.proofs.total.Goals as goal
 use Rattle.totals.proofs.total.Goals.{After-asked-margin}
 

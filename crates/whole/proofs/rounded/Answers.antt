@@ -2,7 +2,7 @@
 use mathlib.Core.Path.{◌≡◌, ap, ap₂, ◌∙◌}
 use Rattle.whole.specs.Machine.{back, told}
 use Rattle.whole.specs.Round.{on_tie, size_rounded_by, with_sign}
-use Rattle.whole.specs.RoundLaws.{on_tie-rule, size-rounded-most}
+use Rattle.whole.proofs.RoundLaws.{on_tie-rule, size-rounded-most}
 use Rattle.whole.proofs.rounded.Goals as goal
 use Rattle.whole.proofs.rounded.Goals.{After-size_rounded-m}
 

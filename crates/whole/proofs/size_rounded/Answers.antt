@@ -7,7 +7,7 @@ use lib.IntN.{nat_abs}
 use lib.Signed.{nat_abs-le}
 use Rattle.whole.specs.Machine.{back}
 use Rattle.whole.specs.Round.{on_tie, size_rounded_by}
-use Rattle.whole.specs.RoundLaws.{less-than-half, more-than-half, half}
+use Rattle.whole.proofs.RoundLaws.{less-than-half, more-than-half, half}
 use Rattle.whole.proofs.size_rounded.Goals as goal
 use Rattle.whole.proofs.size_rounded.Goals.{After-size-m, Else-left-rest}
 

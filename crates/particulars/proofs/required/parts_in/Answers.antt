@@ -6,7 +6,7 @@ use mir.Val.{to_z, of_z}
 use Rattle.whole.specs.Machine.{arg, told}
 use Rattle.whole.specs.Amounts.{Amount, amount-within}
 use Rattle.holdings.specs.Holdings.{basis}
-use Rattle.holdings.specs.BoundLaws.{basis-amount}
+use Rattle.holdings.proofs.BoundLaws.{basis-amount}
 use Rattle.closing.specs.DayEnd.{over_limit}
 use Rattle.particulars.specs.RequiredLaws.{parts_are}
 use Rattle.particulars.proofs.required.parts_in.Goals as goal

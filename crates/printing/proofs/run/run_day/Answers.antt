@@ -1,5 +1,5 @@
 -- A new book is sound.
-use Rattle.model.specs.KeptLaws.{kept_new}
+use Rattle.model.proofs.KeptLaws.{kept_new}
 use Rattle.standing.specs.StandingLaws.{sound-of}
 use Rattle.printing.proofs.run.run_day.Goals as goal
 

@@ -1,6 +1,6 @@
 -- A new book is sound.
 use borrow.Author.Rules.{rules}
-use Rattle.model.specs.KeptLaws.{kept_new}
+use Rattle.model.proofs.KeptLaws.{kept_new}
 use Rattle.standing.specs.StandingLaws.{sound-of}
 use Rattle.printing.proofs.run.run_day.Statement.{statement}
 use Rattle.printing.proofs.run.run_day.Tie as tie

@@ -13,7 +13,7 @@ use Rattle.funds.specs.declared.Funds.{Funds}
 use Rattle.model.specs.Book.{Today, replaced}
 use Rattle.model.specs.Refusals.{is_settled}
 use Rattle.model.specs.Bounds.{all_booked}
-use Rattle.model.specs.HouseLaws.{settled-due}
+use Rattle.model.proofs.HouseLaws.{settled-due}
 use Rattle.model.specs.NaturalLaws.{total_over, total-more, total-each, total-last, total-sizes}
 use Rattle.model.specs.Kept.{days_of, Funded}
 use Rattle.model.specs.SizedLaws.{unpaid}

@@ -16,7 +16,7 @@ use Rattle.model.specs.Effects.{traded, after}
 use Rattle.model.specs.Refusals.{side_totals, tests, refusal}
 use Rattle.model.specs.Answers.{called, answer, both_sides}
 use Rattle.model.specs.StepLaws.{Passed, needed, accepted-by}
-use Rattle.model.specs.FrameLaws.{bystander-still}
+use Rattle.model.proofs.FrameLaws.{bystander-still}
 use Rattle.model.specs.RefusalLaws.{accepted-called, accepted-answer}
 use Rattle.model.specs.Bounds.{total_in, limit_in}
 use Rattle.model.specs.Promises.{side_of, TradeKept}

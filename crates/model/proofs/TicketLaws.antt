@@ -20,7 +20,7 @@ use Rattle.model.specs.Answers.{called}
 use Rattle.model.specs.History.{deal_for}
 use Rattle.model.specs.Promises.{worth_at}
 use Rattle.model.specs.RefusalLaws.{accepted-called}
-use Rattle.model.specs.FrameLaws.{dealt-none}
+use Rattle.model.proofs.FrameLaws.{dealt-none}
 use Rattle.model.specs.Tickets.{Split, whole, first, second, earns, exchanged, position_in, AddsUp, SplitAlike, SameEnd}
 
 -- ---- variation

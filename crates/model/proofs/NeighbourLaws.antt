@@ -20,7 +20,7 @@ use Rattle.model.specs.Neighbours.{AlikeButCash, money_of, with_cash, with_money
 use Rattle.model.specs.RefusalLaws.{accepted-called}
 use Rattle.model.specs.SumLaws.{only, over-away, over-only}
 use Rattle.model.specs.Kept.{Framed, Kept}
-use Rattle.model.specs.KeptLaws.{kept-called}
+use Rattle.model.proofs.KeptLaws.{kept-called}
 
 -- ---- what the definition says of every other account
 others_same : (k : ℕ) (a b : Book) → AlikeButMoney k a b → (n : ℕ) → eqb n k ≡ false → account_of a n ≡ account_of b n

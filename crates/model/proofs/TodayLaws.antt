@@ -7,7 +7,7 @@ use Rattle.records.specs.Records.{Entry}
 use Rattle.tallies.specs.Day as day
 use Rattle.tallies.specs.Means.{weighted}
 use Rattle.tallies.specs.Tally.{tally_of, with_trade, with_quote}
-use Rattle.tallies.specs.TallyLaws.{one-trade-more, one-quote-more}
+use Rattle.tallies.proofs.TallyLaws.{one-trade-more, one-quote-more}
 use Rattle.tallies.specs.declared.Tally.{Tally}
 use Rattle.model.specs.Book.{Book, new}
 use Rattle.model.specs.Calls.{Call, start, enrol, pay_in, pay_out, release, set_special, set_limits, opening, trade, quote, settle, refresh, close, unknown, Quote}
@@ -15,7 +15,7 @@ use Rattle.model.specs.Effects.{after}
 use Rattle.model.specs.Refusals.{is_open, tests}
 use Rattle.model.specs.History.{Step, step, run, log, Dated, todays_trades, todays_quotes, trades_in, quotes_in}
 use Rattle.model.specs.StepLaws.{Passed, needed, induct-tests}
-use Rattle.model.specs.FrameLaws.{unstarted-shut, shut-closed}
+use Rattle.model.proofs.FrameLaws.{unstarted-shut, shut-closed}
 
 -- ---- one more, by its code
 module _ (c : ℕ) (ds : List Dated) (qs : List Quote) where

@@ -29,9 +29,9 @@ use Rattle.model.specs.History.{Step, step, run, log, at_trade, at_close, Dated,
 use Rattle.model.specs.Promises.{worth_at}
 use Rattle.model.specs.Kept.{Listed}
 use Rattle.model.specs.StepLaws.{Passed, needed, induct}
-use Rattle.model.specs.FrameLaws.{dealt-none}
-use Rattle.model.specs.ListedLaws.{listed-after, has_passed, listed-runs, open-keeps, not-passed, ending-passes}
-use Rattle.model.specs.KeptLaws.{known}
+use Rattle.model.proofs.FrameLaws.{dealt-none}
+use Rattle.model.proofs.ListedLaws.{listed-after, has_passed, listed-runs, open-keeps, not-passed, ending-passes}
+use Rattle.model.proofs.KeptLaws.{known}
 
 -- ---- trades are those of closed days and today's
 trades-split : (l : List Step) → trades l ≡ closed_trades l ++ todays_trades l

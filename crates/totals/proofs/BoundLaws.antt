@@ -11,7 +11,7 @@ use Rattle.positions.specs.Bounds.{Margins, Nets}
 use Rattle.positions.specs.declared.Position.{Position}
 use Rattle.positions.specs.BoundLaws.{zero-within}
 use Rattle.totals.specs.Totals.{asked, total}
-use Rattle.totals.specs.TotalLaws.{total-nonneg}
+use Rattle.totals.proofs.TotalLaws.{total-nonneg}
 
 pub asked-each : {most : ℕ} {ps : List Position} {margins : List ℕ} → Nets most ps → Margins margins
     → Each (most * 100000000) (zipped asked ps margins)

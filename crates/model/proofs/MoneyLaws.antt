@@ -24,9 +24,9 @@ use Rattle.model.specs.History.{Step, step, run, log, variation_in, booked, book
 use Rattle.model.specs.Kept.{Framed, Kept}
 use Rattle.model.specs.SumLaws.{only, Total, total-none, total_ext, total-add, total-only, total-more}
 use Rattle.model.specs.StepLaws.{Passed, needed, induct}
-use Rattle.model.specs.ListedLaws.{listed_below}
-use Rattle.model.specs.HouseLaws.{in-due, out-due, release-due, replaced-same, grows, close-due, settle-due, variations-cancel}
-use Rattle.model.specs.KeptLaws.{known, kept-once}
+use Rattle.model.proofs.ListedLaws.{listed_below}
+use Rattle.model.proofs.HouseLaws.{in-due, out-due, release-due, replaced-same, grows, close-due, settle-due, variations-cancel}
+use Rattle.model.proofs.KeptLaws.{known, kept-once}
 use Rattle.model.specs.TableLaws.{tab-none, tab-add, tab-over}
 
 -- x added before y is taken, or after

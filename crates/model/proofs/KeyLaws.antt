@@ -8,7 +8,7 @@ use Rattle.model.specs.Calls.{Call, start, enrol, pay_in, pay_out, release, set_
 use Rattle.model.specs.Effects.{after}
 use Rattle.model.specs.Kept.{Listed, Keyed}
 use Rattle.model.specs.Ranged.{Ranged}
-use Rattle.model.specs.ListedLaws.{listed-few, listed_below}
+use Rattle.model.proofs.ListedLaws.{listed-few, listed_below}
 
 pub keys-new : Keyed new
 unfolding new has

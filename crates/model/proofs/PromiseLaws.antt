@@ -4,15 +4,15 @@ use Rattle.records.specs.Records.{Entry}
 use Rattle.model.specs.History.{run}
 use Rattle.model.specs.Promises.{Promises}
 use Rattle.model.specs.RefusalLaws.{without-refused}
-use Rattle.model.specs.TradeLaws.{trades-kept}
-use Rattle.model.specs.ListedLaws.{passed-unlisted, ended-passed, opens}
-use Rattle.model.specs.OpenDayLaws.{days-told, opens-only, never-four, refused-kept}
-use Rattle.model.specs.VariationLaws.{trade-by-trade, net-is}
-use Rattle.model.specs.ZeroLaws.{lots-cancel, variation-cancels}
-use Rattle.model.specs.MoneyLaws.{money-stays, house-owes, house-unpaid, all-contracts}
-use Rattle.model.specs.CloseLaws.{closes_kept}
+use Rattle.model.proofs.TradeLaws.{trades-kept}
+use Rattle.model.proofs.ListedLaws.{passed-unlisted, ended-passed, opens}
+use Rattle.model.proofs.OpenDayLaws.{days-told, opens-only, never-four, refused-kept}
+use Rattle.model.proofs.VariationLaws.{trade-by-trade, net-is}
+use Rattle.model.proofs.ZeroLaws.{lots-cancel, variation-cancels}
+use Rattle.model.proofs.MoneyLaws.{money-stays, house-owes, house-unpaid, all-contracts}
+use Rattle.model.proofs.CloseLaws.{closes_kept}
 use Rattle.model.specs.SizedLaws.{sums-fit}
-use Rattle.model.specs.KeptLaws.{known, kept-bounded}
+use Rattle.model.proofs.KeptLaws.{known, kept-bounded}
 
 pub promises : (h : List Entry) → Promises h
 promises h = record {

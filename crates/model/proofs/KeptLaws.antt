@@ -12,14 +12,14 @@ use Rattle.model.specs.Bounds.{Bounded}
 use Rattle.model.specs.Kept.{Kept}
 use Rattle.model.specs.StepLaws.{Accepted, accepted-by}
 use Rattle.model.specs.RangeLaws.{ranges}
-use Rattle.model.specs.FrameLaws.{framed-new, framed-after}
-use Rattle.model.specs.ListedLaws.{listed-new, listed-after, listed-once, listed-few, listed-six}
-use Rattle.model.specs.LevelLaws.{level-new, level-after}
-use Rattle.model.specs.HouseLaws.{owing-new, owing-after}
-use Rattle.model.specs.CalendarLaws.{calendar-new, calendar-after}
-use Rattle.model.specs.KeyLaws.{keys-new, keys-after}
+use Rattle.model.proofs.FrameLaws.{framed-new, framed-after}
+use Rattle.model.proofs.ListedLaws.{listed-new, listed-after, listed-once, listed-few, listed-six}
+use Rattle.model.proofs.LevelLaws.{level-new, level-after}
+use Rattle.model.proofs.HouseLaws.{owing-new, owing-after}
+use Rattle.model.proofs.CalendarLaws.{calendar-new, calendar-after}
+use Rattle.model.proofs.KeyLaws.{keys-new, keys-after}
 use Rattle.model.specs.SizedLaws.{sized-bounded}
-use Rattle.model.specs.BoundLaws.{sized_new, sized-after}
+use Rattle.model.proofs.BoundLaws.{sized_new, sized-after}
 
 -- ---- a new book
 pub kept_new : Kept new

@@ -31,10 +31,10 @@ use Rattle.model.specs.History.{Step, step, run, log, Dated, closed_trades, toda
 use Rattle.model.specs.SumLaws.{over-left}
 use Rattle.model.specs.StepLaws.{Passed, needed, induct-tests}
 use Rattle.model.specs.RefusalLaws.{accepted-called, accepted-answer}
-use Rattle.model.specs.TodayLaws.{talliable}
-use Rattle.model.specs.HouseLaws.{variation-by-code, close-due}
-use Rattle.model.specs.KeptLaws.{known}
-use Rattle.model.specs.VariationLaws.{worth-sum, position-is, before-is}
+use Rattle.model.proofs.TodayLaws.{talliable}
+use Rattle.model.proofs.HouseLaws.{variation-by-code, close-due}
+use Rattle.model.proofs.KeptLaws.{known}
+use Rattle.model.proofs.VariationLaws.{worth-sum, position-is, before-is}
 use Rattle.model.specs.Bounds.{total_in}
 use Rattle.model.specs.Promises.{worth_at, made_today, carried_over, amount_of, lines_of, CloseKept}
 

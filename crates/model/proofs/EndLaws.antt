@@ -10,7 +10,7 @@ use Rattle.model.specs.Book.{Book, working}
 use Rattle.model.specs.Effects.{is_ending, codes_left}
 use Rattle.model.specs.Refusals.{is_open}
 use Rattle.model.specs.Kept.{Listed}
-use Rattle.model.specs.ListedLaws.{open-codes, open-dated}
+use Rattle.model.proofs.ListedLaws.{open-codes, open-dated}
 
 -- ---- where only the first of some numbers passes a test, the others are left
 but_first : (p : ℕ → Bool) (ks : List ℕ) → ((c k : ℕ) (rest : List ℕ) → ks ≡ c ∷ rest → has k rest ≡ true → p k ≡ false)

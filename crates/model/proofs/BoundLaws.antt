@@ -28,12 +28,12 @@ use Rattle.model.specs.Refusals.{is_started, is_open, is_settled, tests}
 use Rattle.model.specs.Bounds.{Modest}
 use Rattle.model.specs.Kept.{Framed, Listed, days_of, Sized}
 use Rattle.model.specs.StepLaws.{Passed, needed}
-use Rattle.model.specs.FrameLaws.{shut-closed, unstarted-shut}
-use Rattle.model.specs.ListedLaws.{settled-open, open-closed, fresh-closed, open-later, listed-once, listed-six}
-use Rattle.model.specs.HouseLaws.{in-due, out-due, release-due}
+use Rattle.model.proofs.FrameLaws.{shut-closed, unstarted-shut}
+use Rattle.model.proofs.ListedLaws.{settled-open, open-closed, fresh-closed, open-later, listed-once, listed-six}
+use Rattle.model.proofs.HouseLaws.{in-due, out-due, release-due}
 use Rattle.model.specs.Ranged.{GoodSettings, GoodOpening, GoodTrade, Ranged}
-use Rattle.model.specs.DueLaws.{funded-later, funded-new, funded-paid, funded-settled, funded-closed}
-use Rattle.model.specs.CostLaws.{untraded, dealt-new, dealt-more}
+use Rattle.model.proofs.DueLaws.{funded-later, funded-new, funded-paid, funded-settled, funded-closed}
+use Rattle.model.proofs.CostLaws.{untraded, dealt-new, dealt-more}
 use Rattle.model.specs.TermLaws.{fair-none, tallied-new, opened-fair, closed-fair, tallied-traded, tallied-quoted}
 use Rattle.model.specs.HeldLaws.{none-modest, new-modest, limits-modest, special-modest, refreshed-modest, account-sound, closed-modest, closed-due, booked-most}
 

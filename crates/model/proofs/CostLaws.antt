@@ -13,7 +13,7 @@ use Rattle.positions.specs.Beyond.{is_beyond}
 use Rattle.positions.specs.declared.Position.{Position}
 use Rattle.model.specs.Calls.{Trade}
 use Rattle.model.specs.Effects.{lots_for}
-use Rattle.model.specs.FrameLaws.{bystander-still}
+use Rattle.model.proofs.FrameLaws.{bystander-still}
 use Rattle.model.specs.NaturalLaws.{total_over, total-more, total-each, total-last, total-sizes-of, only_at, total-only}
 use Rattle.model.specs.Ranged.{GoodTrade}
 use Rattle.model.specs.Kept.{Dealt}

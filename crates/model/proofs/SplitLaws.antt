@@ -23,7 +23,7 @@ use Rattle.positions.specs.Deals.{flat, dealt}
 use Rattle.positions.specs.Beyond.{is_beyond}
 use Rattle.positions.specs.declared.Position.{Position}
 use Rattle.totals.specs.Totals.{total}
-use Rattle.totals.specs.TotalLaws.{total-smaller}
+use Rattle.totals.proofs.TotalLaws.{total-smaller}
 use Rattle.holdings.specs.Limits.{totals_of, is_over}
 use Rattle.holdings.specs.LimitLaws.{Allowed, not-over-allowed, over-not-risen, over-not-within}
 use Rattle.model.specs.Book.{Book, margins_of}
@@ -33,13 +33,13 @@ use Rattle.model.specs.Refusals.{needs, first_of, in_hours, side_totals, ranged,
 use Rattle.model.specs.Bounds.{total_in, limit_in}
 use Rattle.model.specs.StepLaws.{Passed, passed_first, needed, accepted-by}
 use Rattle.model.specs.RefusalLaws.{accepted-called}
-use Rattle.model.specs.FrameLaws.{dealt-none}
-use Rattle.model.specs.TradeLaws.{side-is}
+use Rattle.model.proofs.FrameLaws.{dealt-none}
+use Rattle.model.proofs.TradeLaws.{side-is}
 use Rattle.model.specs.Promises.{side_of}
 use Rattle.model.specs.Entries.{trades, written}
 use Rattle.model.specs.RangeLaws.{ranged-tells}
 use Rattle.model.specs.Tickets.{Split, whole, first, second, position_in, Offered, AsWritten, second_step, has_room_for_both, second_refusal, WhatPartsMeet, OneSided, SafeFor, SafeSplit, SafeAgain}
-use Rattle.model.specs.TicketLaws.{positions-alike, same_end}
+use Rattle.model.proofs.TicketLaws.{positions-alike, same_end}
 
 -- ---- a net on its way from x by y to z
 abbrev Between : ℤ → ℤ → ℤ → Type 0

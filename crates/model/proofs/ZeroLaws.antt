@@ -11,8 +11,8 @@ use Rattle.model.specs.History.{Step, step, run, log, booked}
 use Rattle.model.specs.Kept.{Kept}
 use Rattle.model.specs.SumLaws.{Total, total-none, total-add, total-more}
 use Rattle.model.specs.StepLaws.{Passed, needed, induct}
-use Rattle.model.specs.LevelLaws.{level-variation}
-use Rattle.model.specs.KeptLaws.{known}
+use Rattle.model.proofs.LevelLaws.{level-variation}
+use Rattle.model.proofs.KeptLaws.{known}
 
 -- ---- what closes booked in one contract
 abbrev BookedIn : ℕ → Book → List Step → Type 0

@@ -27,7 +27,7 @@ use Rattle.model.specs.Answers.{called, refused, expecting, refusing, answer, re
 use Rattle.model.specs.Promises.{NextDay, RefusedKept, InTurn, DayTold}
 use Rattle.model.specs.Kept.{is_dated, Listed}
 use Rattle.model.specs.RefusalLaws.{refused-same}
-use Rattle.model.specs.ListedLaws.{on-is}
+use Rattle.model.proofs.ListedLaws.{on-is}
 
 -- the first test, by whether a record is in range
 abbrev range_test : Bool → ℕ

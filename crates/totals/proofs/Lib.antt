@@ -1,0 +1,2 @@
+pub mod TotalLaws
+pub mod BoundLaws
