@@ -21,7 +21,7 @@ fn print_lists<W: Write>(output: &mut W, input: &[u8]) {
             printing::print_bad_input(output);
             return;
         };
-        if !printing::print_list(&mut *output, k, &days, count) {
+        if !printing::print_list(output, k, &days, count) {
             return;
         }
         at = end + 1;

@@ -40,7 +40,7 @@ fn print_months<W: Write>(output: &mut W, exceptions: &[u64]) -> bool
 {
     let mut number = Month::FIRST - 1;
     while number <= Month::LAST + 1 {
-        if !print_month(&mut *output, exceptions, Month { number }) {
+        if !print_month(output, exceptions, Month { number }) {
             return false;
         }
         number += 1;
@@ -67,7 +67,7 @@ fn print_listings<W: Write>(output: &mut W, exceptions: &[u64], first: u64, last
     let mut t = first;
     while t <= last {
         if days::is_working(exceptions, t) {
-            if !print_listing(&mut *output, exceptions, t) {
+            if !print_listing(output, exceptions, t) {
                 return false;
             }
         }
@@ -80,13 +80,13 @@ fn print_listings<W: Write>(output: &mut W, exceptions: &[u64], first: u64, last
 fn print_accepted<W: Write>(output: &mut W, exceptions: &[u64]) -> bool
     requires { rising exceptions.now ≡ true }
 {
-    if !print_months(&mut *output, exceptions) {
+    if !print_months(output, exceptions) {
         return false;
     }
-    if !print_listings(&mut *output, exceptions, 1096, 1460) {
+    if !print_listings(output, exceptions, 1096, 1460) {
         return false;
     }
-    print_listings(&mut *output, exceptions, 3288, 3652)
+    print_listings(output, exceptions, 3288, 3652)
 }
 
 // What is wrong with the exceptions, or what the calendar makes of them.
@@ -97,18 +97,18 @@ fn print_almanac<W: Write>(output: &mut W, exceptions: &[u64]) -> bool {
     if !days::is_accepted(exceptions) {
         return output.write_all(b"refused\n").is_ok();
     }
-    print_accepted(&mut *output, exceptions)
+    print_accepted(output, exceptions)
 }
 
 // The k-th list: its heading, and what becomes of the first `count` of the days lent.
 pub(crate) fn print_list<W: Write>(output: &mut W, k: u64, days: &[u64; 400], count: usize) -> bool
     requires { count ≤ 400 }
 {
-    if !print_heading(&mut *output, k) {
+    if !print_heading(output, k) {
         return false;
     }
     let all: &[u64] = days;
-    print_almanac(&mut *output, &all[..count])
+    print_almanac(output, &all[..count])
 }
 
 // What ends a run on a line that is no list.

@@ -25,37 +25,37 @@ fn say_number<E: Write>(errors: &mut E, number: u64) {
 
 // Says which line it is. What was expected follows after a space.
 fn say_line<E: Write>(errors: &mut E, number: u64) {
-    say(&mut *errors, b"line ");
-    say_number(&mut *errors, number);
-    say(&mut *errors, b": expected");
+    say(errors, b"line ");
+    say_number(errors, number);
+    say(errors, b": expected");
 }
 
 // Says how a line of a kind looks.
 fn say_example<E: Write>(errors: &mut E, kind: u64) {
-    say(&mut *errors, b", as in: ");
+    say(errors, b", as in: ");
     match kind {
         0 => say(
-            &mut *errors,
+            errors,
             b"start reference 3000000 multiplier 100 exceptions 2 5 17\n",
         ),
-        1 => say(&mut *errors, b"enrol 1000001 limit 10 tolerance 0\n"),
-        2 => say(&mut *errors, b"pay-in 1000001 amount 100000000\n"),
-        3 => say(&mut *errors, b"pay-out 1000001 amount 100000000\n"),
-        4 => say(&mut *errors, b"release 1000001 amount 100000000\n"),
-        5 => say(&mut *errors, b"special 1000001 amount 100000000\n"),
-        6 => say(&mut *errors, b"limits 1000001 limit 10 tolerance 0\n"),
+        1 => say(errors, b"enrol 1000001 limit 10 tolerance 0\n"),
+        2 => say(errors, b"pay-in 1000001 amount 100000000\n"),
+        3 => say(errors, b"pay-out 1000001 amount 100000000\n"),
+        4 => say(errors, b"release 1000001 amount 100000000\n"),
+        5 => say(errors, b"special 1000001 amount 100000000\n"),
+        6 => say(errors, b"limits 1000001 limit 10 tolerance 0\n"),
         7 => say(
-            &mut *errors,
+            errors,
             b"open 1339 rates 2.3000% 2.3000% 2.3000% 2.3000% 2.3000% 2.3000% margins 3000000 3000000 3000000 3000000 3000000 3000000\n",
         ),
         8 => say(
-            &mut *errors,
+            errors,
             b"trade 09:30:00 2312 buyer 1000001 seller 1000002 lots 4 rate 2.3100%\n",
         ),
-        9 => say(&mut *errors, b"quote 15:45:00 2312 bid 2.3050%\n"),
-        10 => say(&mut *errors, b"settle\n"),
-        11 => say(&mut *errors, b"refresh\n"),
-        _ => say(&mut *errors, b"close final 0.0000%\n"),
+        9 => say(errors, b"quote 15:45:00 2312 bid 2.3050%\n"),
+        10 => say(errors, b"settle\n"),
+        11 => say(errors, b"refresh\n"),
+        _ => say(errors, b"close final 0.0000%\n"),
     }
 }
 
@@ -65,19 +65,19 @@ fn say_label<E: Write>(errors: &mut E, kind: u64, field: usize)
 {
     let mut room = [0u8; LABEL];
     let size = put_label(&mut room, 0, kind, field);
-    say(&mut *errors, &room[..size]);
+    say(errors, &room[..size]);
     if 1 < size {
-        say(&mut *errors, b"and ");
+        say(errors, b"and ");
     }
 }
 
 // Says what kind of value is expected.
 fn say_value<E: Write>(errors: &mut E, style: Style) {
     match style {
-        Style::Plain => say(&mut *errors, b"a number"),
-        Style::Rate => say(&mut *errors, b"a rate"),
-        Style::Time => say(&mut *errors, b"a time"),
-        Style::Side => say(&mut *errors, b"bid or offer"),
+        Style::Plain => say(errors, b"a number"),
+        Style::Rate => say(errors, b"a rate"),
+        Style::Time => say(errors, b"a time"),
+        Style::Side => say(errors, b"bid or offer"),
     }
 }
 
@@ -89,32 +89,29 @@ fn say_field<E: Write>(errors: &mut E, kind: u64, field: usize) {
     if n <= field {
         return;
     }
-    say_label(&mut *errors, kind, field);
-    say_value(&mut *errors, style_of(kind, field));
-    say_example(&mut *errors, kind);
+    say_label(errors, kind, field);
+    say_value(errors, style_of(kind, field));
+    say_example(errors, kind);
 }
 
 // Says that so many exceptions were expected.
 fn say_exceptions<E: Write>(errors: &mut E, count: u64) {
-    say(&mut *errors, b" ");
-    say_number(&mut *errors, count);
-    say(
-        &mut *errors,
-        b" exception days after their number, at most 400",
-    );
-    say_example(&mut *errors, 0);
+    say(errors, b" ");
+    say_number(errors, count);
+    say(errors, b" exception days after their number, at most 400");
+    say_example(errors, 0);
 }
 
 // Says that nothing more was expected.
 fn say_end<E: Write>(errors: &mut E, kind: u64) {
-    say(&mut *errors, b" nothing after the record");
-    say_example(&mut *errors, kind);
+    say(errors, b" nothing after the record");
+    say_example(errors, kind);
 }
 
 // Says that a line is longer than any record's.
 pub(crate) fn say_too_long<E: Write>(errors: &mut E, number: u64) {
-    say_line(&mut *errors, number);
-    say(&mut *errors, b" a shorter line\n");
+    say_line(errors, number);
+    say(errors, b" a shorter line\n");
 }
 
 // Says what was expected of a line, by what was found.
@@ -125,15 +122,15 @@ pub(crate) fn say_expected<E: Write>(
     kind: u64,
     fields: [u64; WIDTH],
 ) {
-    say_line(&mut *errors, number);
+    say_line(errors, number);
     match found {
         Line::NoKind => say(
-            &mut *errors,
+            errors,
             b" a record: start, enrol, pay-in, pay-out, release, special, limits, open, trade, quote, settle, refresh or close\n",
         ),
-        Line::NoField(field) => say_field(&mut *errors, kind, field),
-        Line::NoException(_read) => say_exceptions(&mut *errors, announced(kind, fields)),
-        Line::TooLong => say_end(&mut *errors, kind),
-        Line::Record => say_end(&mut *errors, kind),
+        Line::NoField(field) => say_field(errors, kind, field),
+        Line::NoException(_read) => say_exceptions(errors, announced(kind, fields)),
+        Line::TooLong => say_end(errors, kind),
+        Line::Record => say_end(errors, kind),
     }
 }

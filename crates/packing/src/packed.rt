@@ -158,7 +158,7 @@ fn pack_block<E: Write>(
         bad: false,
     };
     while is_next(p, bytes.len(), ended) {
-        p = pack_next(&mut *errors, bytes, &mut *room, p, ended);
+        p = pack_next(errors, bytes, &mut *room, p, ended);
     }
     p
 }
@@ -227,15 +227,7 @@ fn take_turns<R: Read, W: Write, E: Write>(
     let mut number: u64 = 1;
     let mut turns = TURNS;
     while 0 < turns {
-        let turn = take_turn(
-            &mut *input,
-            &mut *output,
-            &mut *errors,
-            &mut *block,
-            &mut *room,
-            w,
-            number,
-        );
+        let turn = take_turn(input, output, errors, &mut *block, &mut *room, w, number);
         match turn {
             Turn::Ended(packed) => return packed,
             Turn::On(next, line) => {

@@ -208,7 +208,7 @@ fn take_turns<R: Read, W: Write>(
     let mut w = first_window();
     let mut turns = TURNS;
     while 0 < turns {
-        let turn = take_turn(&mut *input, &mut *output, &mut *block, &mut *room, w);
+        let turn = take_turn(input, output, &mut *block, &mut *room, w);
         match turn {
             Turn::Ended(unpacked) => return unpacked,
             Turn::On(next) => {

@@ -22,9 +22,9 @@ fn put_field<W: Write>(
     value: u64,
 ) -> usize {
     if fields::is_signed(kind, field) {
-        put_signed(&mut *output, text, at, folding::unfold(value))
+        put_signed(output, text, at, folding::unfold(value))
     } else {
-        put_next(&mut *output, text, at, value)
+        put_next(output, text, at, value)
     }
 }
 
@@ -45,7 +45,7 @@ fn put_fields<W: Write>(
     let mut next = at;
     let mut i: usize = 0;
     while i < count {
-        next = put_field(&mut *output, &mut *text, next, kind, i, values[i]);
+        next = put_field(output, &mut *text, next, kind, i, values[i]);
         i += 1;
     }
     next
@@ -59,8 +59,8 @@ fn put_checked<W: Write>(
     checked: Checked,
 ) -> usize {
     match checked {
-        Checked::Passed => put_word(&mut *output, text, at, b" ok"),
-        Checked::Refused(number) => put_next(&mut *output, text, at, number),
+        Checked::Passed => put_word(output, text, at, b" ok"),
+        Checked::Refused(number) => put_next(output, text, at, number),
     }
 }
 
@@ -75,9 +75,9 @@ fn put_written<W: Write>(
     exceptions: &[u64],
 ) -> usize {
     if !writes_back(record, kind, values, exceptions) {
-        return put_word(&mut *output, text, at, b" differs");
+        return put_word(output, text, at, b" differs");
     }
-    put_next(&mut *output, text, at, record.len() as u64)
+    put_next(output, text, at, record.len() as u64)
 }
 
 // Puts the line of a record that was read from just these bytes.
@@ -90,25 +90,19 @@ fn put_record<W: Write>(
     values: [u64; WIDTH],
     exceptions: &[u64],
 ) -> usize {
-    let named = put_number(&mut *output, &mut *text, at, kind);
-    let filled = put_fields(&mut *output, &mut *text, named, kind, values);
-    let listed = put_list(&mut *output, &mut *text, filled, exceptions);
+    let named = put_number(output, &mut *text, at, kind);
+    let filled = put_fields(output, &mut *text, named, kind, values);
+    let listed = put_list(output, &mut *text, filled, exceptions);
     let checked = put_checked(
-        &mut *output,
+        output,
         &mut *text,
         listed,
         ranges::in_range(kind, values, exceptions),
     );
     let written = put_written(
-        &mut *output,
-        &mut *text,
-        checked,
-        record,
-        kind,
-        values,
-        exceptions,
+        output, &mut *text, checked, record, kind, values, exceptions,
     );
-    put_word(&mut *output, text, written, b"\n")
+    put_word(output, text, written, b"\n")
 }
 
 // Puts the line of a start, whose exceptions just fill the list lent and end where the record does.
@@ -125,14 +119,14 @@ fn put_exceptions<W: Write>(
     requires { (from ≤ end) × (end ≤ length bytes.now) }
 {
     let End::Next(last) = decoding::read_numbers(bytes, reading.more, &mut *list) else {
-        return put_word(&mut *output, text, at, b"differs\n");
+        return put_word(output, text, at, b"differs\n");
     };
     if last != end {
-        return put_word(&mut *output, text, at, b"differs\n");
+        return put_word(output, text, at, b"differs\n");
     }
     let values = reading.fields;
     put_record(
-        &mut *output,
+        output,
         text,
         at,
         &bytes[from..end],
@@ -157,11 +151,11 @@ fn put_start<W: Write>(
     let values = reading.fields;
     let count = values[2] as usize;
     if 400 < count {
-        return put_word(&mut *output, text, at, b"differs\n");
+        return put_word(output, text, at, b"differs\n");
     }
     let mut list = [0u64; 400];
     put_exceptions(
-        &mut *output,
+        output,
         text,
         at,
         bytes,
@@ -185,12 +179,12 @@ fn put_reading<W: Write>(
     requires { (from ≤ end) × (end ≤ length bytes.now) }
 {
     if reading.kind == 0 {
-        return put_start(&mut *output, text, at, bytes, from, end, reading);
+        return put_start(output, text, at, bytes, from, end, reading);
     }
     let values = reading.fields;
     let none = [0u64; 1];
     put_record(
-        &mut *output,
+        output,
         text,
         at,
         &bytes[from..end],
@@ -202,8 +196,8 @@ fn put_reading<W: Write>(
 
 // Puts the line that ends a file at a record that is refused.
 fn put_bad<W: Write>(output: &mut W, text: &mut [u8; 65536], at: usize, place: usize) -> usize {
-    let placed = put_named(&mut *output, &mut *text, at, b"bad", place as u64);
-    put_word(&mut *output, text, placed, b"\n")
+    let placed = put_named(output, &mut *text, at, b"bad", place as u64);
+    put_word(output, text, placed, b"\n")
 }
 
 // Puts the lines of a file's records, up to its end or the first that is refused.
@@ -213,26 +207,26 @@ fn put_records<W: Write>(output: &mut W, text: &mut [u8; 65536], at: usize, byte
     while place < bytes.len() {
         let reading = records::read_record(bytes, place);
         if !reads_alike(bytes, place, reading) {
-            return put_word(&mut *output, text, put, b"differs\n");
+            return put_word(output, text, put, b"differs\n");
         }
         let answer = reading.answer;
         match answer {
             Answer::Malformed(bad) => {
-                return put_bad(&mut *output, text, put, bad);
+                return put_bad(output, text, put, bad);
             }
             Answer::Next(next) => {
                 if next <= place {
-                    return put_word(&mut *output, text, put, b"differs\n");
+                    return put_word(output, text, put, b"differs\n");
                 }
                 if bytes.len() < next {
-                    return put_word(&mut *output, text, put, b"differs\n");
+                    return put_word(output, text, put, b"differs\n");
                 }
-                put = put_reading(&mut *output, &mut *text, put, bytes, place, next, reading);
+                put = put_reading(output, &mut *text, put, bytes, place, next, reading);
                 place = next;
             }
         }
     }
-    put_word(&mut *output, text, put, b"end\n")
+    put_word(output, text, put, b"end\n")
 }
 
 // Puts the lines of the file that the first bytes lent are.
@@ -246,7 +240,7 @@ fn put_first<W: Write>(
     requires { count ≤ 8192 }
 {
     let all: &[u8] = bytes;
-    put_records(&mut *output, text, at, &all[..count])
+    put_records(output, text, at, &all[..count])
 }
 
 // Puts the answer to a line of hex digits, an event file of at most 8,192 bytes.
@@ -266,5 +260,5 @@ pub(crate) fn put_file<W: Write>(
     if !read_hex(line, &mut bytes) {
         return Place::NoTest;
     }
-    Place::After(put_first(&mut *output, text, at, &bytes, line.len() / 2))
+    Place::After(put_first(output, text, at, &bytes, line.len() / 2))
 }

@@ -30,7 +30,7 @@ fn answer_lines<W: Write>(output: &mut W, input: &[u8]) {
     let mut at: usize = 0;
     while at < input.len() {
         let end = scan::line_end(input, at);
-        let Place::After(next) = put_answer(&mut *output, &mut text, place, &input[at..end]) else {
+        let Place::After(next) = put_answer(output, &mut text, place, &input[at..end]) else {
             text::end_badly(output, &mut text, place);
             return;
         };

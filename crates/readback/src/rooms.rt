@@ -92,20 +92,20 @@ fn put_written<W: Write>(
     written: Written,
 ) -> usize {
     match written {
-        Written::Done(length) => put_named(&mut *output, text, at, b"done", length as u64),
-        Written::Malformed(place) => put_named(&mut *output, text, at, b"no 1", place as u64),
-        Written::NoRoom => put_word(&mut *output, text, at, b"no 16"),
+        Written::Done(length) => put_named(output, text, at, b"done", length as u64),
+        Written::Malformed(place) => put_named(output, text, at, b"no 1", place as u64),
+        Written::NoRoom => put_word(output, text, at, b"no 16"),
     }
 }
 
 // Puts a space and a whole room, or nothing for an empty one, and ends the line.
 fn put_room<W: Write>(output: &mut W, text: &mut [u8; 65536], at: usize, room: &[u8]) -> usize {
     if room.len() == 0 {
-        return put_word(&mut *output, text, at, b"\n");
+        return put_word(output, text, at, b"\n");
     }
-    let parted = put_word(&mut *output, &mut *text, at, b" ");
-    let shown = put_hex(&mut *output, &mut *text, parted, room);
-    put_word(&mut *output, text, shown, b"\n")
+    let parted = put_word(output, &mut *text, at, b" ");
+    let shown = put_hex(output, &mut *text, parted, room);
+    put_word(output, text, shown, b"\n")
 }
 
 // The thirteen fields that stand after the room and the kind.
@@ -132,8 +132,8 @@ fn put_room_after<W: Write>(
     exceptions: &[u64],
 ) -> usize {
     let written = records::write_record(&mut *room, kind, values, exceptions);
-    let answered = put_written(&mut *output, &mut *text, at, written);
-    put_room(&mut *output, text, answered, room)
+    let answered = put_written(output, &mut *text, at, written);
+    put_room(output, text, answered, room)
 }
 
 // Puts the answer to numbers that stand for a room's size, a kind, its fields and exceptions.
@@ -152,7 +152,7 @@ fn put_attempt<W: Write>(
     let values = fields_in(numbers);
     let mut room = [0xAAu8; 4096];
     Place::After(put_room_after(
-        &mut *output,
+        output,
         text,
         at,
         &mut room[..size],
@@ -176,7 +176,7 @@ fn put_first<W: Write>(
         return Place::NoTest;
     }
     let all: &[u64] = numbers;
-    put_attempt(&mut *output, text, at, &all[..count])
+    put_attempt(output, text, at, &all[..count])
 }
 
 // Puts the answer to what stands after the `w` of a line: a record to be written, and how much room there is.
@@ -188,5 +188,5 @@ pub(crate) fn put_writing<W: Write>(
 ) -> Place {
     let mut numbers = [0u64; 465];
     let count = read_numbers(rest, &mut numbers);
-    put_first(&mut *output, text, at, &numbers, count)
+    put_first(output, text, at, &numbers, count)
 }

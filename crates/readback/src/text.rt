@@ -28,7 +28,7 @@ fn put_byte<W: Write>(output: &mut W, text: &mut [u8; 65536], at: usize, byte: u
         text[at] = byte;
         return at + 1;
     }
-    write_text(&mut *output, &*text, at);
+    write_text(output, &*text, at);
     text[0] = byte;
     1
 }
@@ -43,7 +43,7 @@ pub(crate) fn put_word<W: Write>(
     let mut next = at;
     let mut i: usize = 0;
     while i < word.len() {
-        next = put_byte(&mut *output, &mut *text, next, word[i]);
+        next = put_byte(output, &mut *text, next, word[i]);
         i += 1;
     }
     next
@@ -58,7 +58,7 @@ pub(crate) fn put_number<W: Write>(
 ) -> usize {
     let mut digits = [0u8; 20];
     let count = digits_of(number, &mut digits);
-    put_word(&mut *output, text, at, &digits[..count])
+    put_word(output, text, at, &digits[..count])
 }
 
 // Puts a space and a number.
@@ -68,8 +68,8 @@ pub(crate) fn put_next<W: Write>(
     at: usize,
     number: u64,
 ) -> usize {
-    let next = put_byte(&mut *output, &mut *text, at, b' ');
-    put_number(&mut *output, text, next, number)
+    let next = put_byte(output, &mut *text, at, b' ');
+    put_number(output, text, next, number)
 }
 
 // Puts a word, a space and a number.
@@ -80,8 +80,8 @@ pub(crate) fn put_named<W: Write>(
     word: &[u8],
     number: u64,
 ) -> usize {
-    let next = put_word(&mut *output, &mut *text, at, word);
-    put_next(&mut *output, text, next, number)
+    let next = put_word(output, &mut *text, at, word);
+    put_next(output, text, next, number)
 }
 
 // Puts a space and a signed number.
@@ -93,10 +93,10 @@ pub(crate) fn put_signed<W: Write>(
 ) -> usize {
     let size = whole::size(number);
     if number < 0 {
-        let next = put_word(&mut *output, &mut *text, at, b" -");
-        return put_number(&mut *output, text, next, size);
+        let next = put_word(output, &mut *text, at, b" -");
+        return put_number(output, text, next, size);
     }
-    put_next(&mut *output, text, at, size)
+    put_next(output, text, at, size)
 }
 
 // Puts numbers, each after a space.
@@ -109,7 +109,7 @@ pub(crate) fn put_list<W: Write>(
     let mut next = at;
     let mut i: usize = 0;
     while i < list.len() {
-        next = put_next(&mut *output, &mut *text, next, list[i]);
+        next = put_next(output, &mut *text, next, list[i]);
         i += 1;
     }
     next
@@ -124,8 +124,8 @@ fn hex_digit(n: u8) -> u8
 
 // Puts a byte as two hex digits.
 fn put_digits<W: Write>(output: &mut W, text: &mut [u8; 65536], at: usize, byte: u8) -> usize {
-    let next = put_byte(&mut *output, &mut *text, at, hex_digit(byte / 16));
-    put_byte(&mut *output, text, next, hex_digit(byte % 16))
+    let next = put_byte(output, &mut *text, at, hex_digit(byte / 16));
+    put_byte(output, text, next, hex_digit(byte % 16))
 }
 
 // Puts bytes as hex digits.
@@ -138,7 +138,7 @@ pub(crate) fn put_hex<W: Write>(
     let mut next = at;
     let mut i: usize = 0;
     while i < bytes.len() {
-        next = put_digits(&mut *output, &mut *text, next, bytes[i]);
+        next = put_digits(output, &mut *text, next, bytes[i]);
         i += 1;
     }
     next
@@ -146,6 +146,6 @@ pub(crate) fn put_hex<W: Write>(
 
 // Puts the line that ends a run on a line that is no test, and writes the text.
 pub(crate) fn end_badly<W: Write>(output: &mut W, text: &mut [u8; 65536], at: usize) -> bool {
-    let end = put_word(&mut *output, &mut *text, at, b"bad input\n");
-    write_text(&mut *output, &*text, end)
+    let end = put_word(output, &mut *text, at, b"bad input\n");
+    write_text(output, &*text, end)
 }

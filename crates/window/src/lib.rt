@@ -73,7 +73,7 @@ pub fn refill<R: Read>(input: &mut R, block: &mut [u8], w: Window, enough: usize
         return w;
     }
     let left = move_down(&mut *block, w.from, w.to);
-    let got = read_full(&mut *input, &mut block[left..]);
+    let got = read_full(input, &mut block[left..]);
     let to = left + got;
     Window {
         from: 0,
