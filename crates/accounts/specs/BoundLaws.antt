@@ -7,7 +7,7 @@ use Rattle.holdings.proofs.BoundLaws as holds
 use Rattle.holdings.specs.declared.Limits.{Limits}
 use Rattle.closing.specs.DayEnd.{at_close, full_core, with_core}
 use Rattle.closing.specs.Bounds.{GoodDayEnd}
-use Rattle.closing.specs.BoundLaws.{close-sound, core-sound, core-amount, full-amount, requirement-amount}
+use Rattle.closing.proofs.BoundLaws.{close-sound, core-sound, core-amount, full-amount, requirement-amount}
 use Rattle.closing.specs.declared.DayEnd.{DayEnd}
 use Rattle.funds.specs.Bounds.{Billed}
 use Rattle.funds.specs.BoundLaws as has

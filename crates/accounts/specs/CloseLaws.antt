@@ -11,7 +11,7 @@ use Rattle.whole.specs.Tests.{le_yes}
 use Rattle.whole.specs.Larger.{larger-above, smaller-below}
 use Rattle.booking.specs.Variation.{variation}
 use Rattle.holdings.specs.Holdings.{basis}
-use Rattle.closing.specs.DayEndLaws.{over-nonneg, over_none}
+use Rattle.closing.proofs.DayEndLaws.{over-nonneg, over_none}
 use Rattle.closing.specs.DayEnd.{at_close, over_limit, requirement, full_core, with_core}
 use Rattle.closing.specs.declared.DayEnd.{DayEnd}
 use Rattle.funds.specs.Funds.{billed, settled}

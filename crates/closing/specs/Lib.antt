@@ -1,4 +1,2 @@
 pub mod DayEnd
-pub mod DayEndLaws
 pub mod Bounds
-pub mod BoundLaws

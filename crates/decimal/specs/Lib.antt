@@ -1,5 +1,3 @@
 pub mod Decimal
-pub mod DecimalLaws
 pub mod Digits
 pub mod Put
-pub mod PutLaws

@@ -19,9 +19,9 @@ use Rattle.model.specs.Calls.{Call, start, enrol, pay_in, pay_out, release, set_
 use Rattle.model.specs.Refusals.{side_totals, refusal}
 use Rattle.model.specs.Answers as model
 use Rattle.model.specs.History.{run_from, step, run, log, noted, at_trade}
-use Rattle.model.specs.StepLaws.{accepted-by}
+use Rattle.model.proofs.StepLaws.{accepted-by}
 use Rattle.model.specs.Ranged.{Ranged}
-use Rattle.model.specs.RangeLaws.{ranges}
+use Rattle.model.proofs.RangeLaws.{ranges}
 use Rattle.model.proofs.OpenDayLaws.{refusing-number}
 use Rattle.model.proofs.KeptLaws.{kept_new, known}
 use Rattle.standing.specs.Standing.{rows_of, view}

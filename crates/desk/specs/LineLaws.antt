@@ -26,9 +26,9 @@ use Rattle.model.specs.Refusals.{tests}
 use Rattle.model.specs.Answers.{called}
 use Rattle.model.specs.History.{run_from, run, log, variation_in}
 use Rattle.model.specs.Promises.{worth_at}
-use Rattle.model.specs.StepLaws.{Passed, needed, accepted-by}
+use Rattle.model.proofs.StepLaws.{Passed, needed, accepted-by}
 use Rattle.model.specs.Ranged.{Ranged}
-use Rattle.model.specs.RangeLaws.{ranges}
+use Rattle.model.proofs.RangeLaws.{ranges}
 use Rattle.model.specs.RefusalLaws.{accepted-called}
 use Rattle.model.proofs.ListedLaws.{settled-open}
 use Rattle.model.specs.TermLaws.{rate-fair}

@@ -24,9 +24,9 @@ use Rattle.model.specs.Refusals.{tests, refusal}
 use Rattle.model.specs.Answers.{called}
 use Rattle.model.specs.History.{Step, step, run, log, at_trade, at_close, Dated, dated, closed_trades, todays_trades, is_side_in, own_trades, deal_for, deals_of, variation_in}
 use Rattle.model.specs.Promises.{worth_at, made_today, carried_over, amount_of}
-use Rattle.model.specs.StepLaws.{Passed, needed, accepted-by, induct}
+use Rattle.model.proofs.StepLaws.{Passed, needed, accepted-by, induct}
 use Rattle.model.specs.Ranged.{GoodTrade, Ranged}
-use Rattle.model.specs.RangeLaws.{ranges}
+use Rattle.model.proofs.RangeLaws.{ranges}
 use Rattle.model.specs.Kept.{Framed}
 use Rattle.model.proofs.FrameLaws.{shut-closed}
 use Rattle.model.proofs.VariationLaws.{before-is}

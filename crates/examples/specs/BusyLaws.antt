@@ -11,7 +11,7 @@ use Rattle.model.specs.Effects.{with_day, with_accounts, traded, after}
 use Rattle.model.specs.Refusals.{first_of, tests, refusal}
 use Rattle.model.specs.Answers.{called}
 use Rattle.model.specs.History.{run_from, run}
-use Rattle.model.specs.StepLaws.{Passed, passed_first, needed, accepted-by}
+use Rattle.model.proofs.StepLaws.{Passed, passed_first, needed, accepted-by}
 use Rattle.model.specs.RefusalLaws.{accepted-called}
 use Rattle.model.specs.Tickets.{exchanged}
 use Rattle.model.proofs.TicketLaws.{adds-up}

@@ -12,7 +12,7 @@ use Rattle.memory.specs.Memory.{Holds}
 use Rattle.model.specs.Book.{new}
 use Rattle.model.specs.Calls.{call_of}
 use Rattle.model.specs.Ranged.{GoodTrade}
-use Rattle.model.specs.RangeLaws.{ranges}
+use Rattle.model.proofs.RangeLaws.{ranges}
 use Rattle.standing.specs.Standing.{rows_of, view}
 use Rattle.dealing.specs.Dealing.{trade_of}
 use Rattle.book.specs.declared.calls.Answer.{Answer}

@@ -4,7 +4,7 @@ use Rattle.std.proofs.Common.{le_trans, mul-le-mul_right, arith}
 use Rattle.std.proofs.Math.ListN.{length-append}
 use Rattle.lists.specs.Block.{block}
 use Rattle.decimal.specs.Decimal.{numeral}
-use Rattle.decimal.specs.PutLaws.{numeral-length, signed-length}
+use Rattle.decimal.proofs.PutLaws.{numeral-length, signed-length}
 use Rattle.rates.specs.Rules.{number_of}
 use Rattle.rates.specs.declared.Settled.{Settled}
 use Rattle.model.specs.Answers.{Bill, Report, report_of}

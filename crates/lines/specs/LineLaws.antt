@@ -8,7 +8,7 @@ use Rattle.lists.specs.Has.{has}
 use Rattle.lists.specs.Those.{those-fewer}
 use Rattle.decimal.specs.Decimal.{numeral, signed_numeral}
 use Rattle.decimal.specs.Put.{Put}
-use Rattle.decimal.specs.PutLaws.{put-none, put-more, put-length, numeral-length, signed-length}
+use Rattle.decimal.proofs.PutLaws.{put-none, put-more, put-length, numeral-length, signed-length}
 use Rattle.reports.specs.ReportLaws.{LowestIs}
 use Rattle.lines.specs.Lines.{spaced, line, in_order}
 use Rattle.lines.specs.OrderLaws.{before, ordered-none, ordered-next, ordered-all, in-order-length}

@@ -27,7 +27,7 @@ use Rattle.model.specs.Effects.{with_held, started, enrolled, paid, codes_on, op
 use Rattle.model.specs.Refusals.{is_started, is_open, is_settled, tests}
 use Rattle.model.specs.Bounds.{Modest}
 use Rattle.model.specs.Kept.{Framed, Listed, days_of, Sized}
-use Rattle.model.specs.StepLaws.{Passed, needed}
+use Rattle.model.proofs.StepLaws.{Passed, needed}
 use Rattle.model.proofs.FrameLaws.{shut-closed, unstarted-shut}
 use Rattle.model.proofs.ListedLaws.{settled-open, open-closed, fresh-closed, open-later, listed-once, listed-six}
 use Rattle.model.proofs.HouseLaws.{in-due, out-due, release-due}

@@ -7,7 +7,7 @@ use Rattle.model.specs.Calls.{Call, start, enrol, pay_in, pay_out, release, set_
 use Rattle.model.specs.Effects.{after}
 use Rattle.model.specs.Refusals.{tests}
 use Rattle.model.specs.Kept.{Calendared}
-use Rattle.model.specs.StepLaws.{Passed, needed}
+use Rattle.model.proofs.StepLaws.{Passed, needed}
 
 pub calendar-new : Calendared new
 unfolding new is_weekend is_exception is_working first_working no_long_break

@@ -29,7 +29,7 @@ use Rattle.model.specs.Refusals.{tests, refusal}
 use Rattle.model.specs.Answers.{called, answer}
 use Rattle.model.specs.History.{Step, step, run, log, Dated, closed_trades, todays_trades, todays_quotes, trades_in, quotes_in, deal_for, deals_of, own_trades, variation_in}
 use Rattle.model.specs.SumLaws.{over-left}
-use Rattle.model.specs.StepLaws.{Passed, needed, induct-tests}
+use Rattle.model.proofs.StepLaws.{Passed, needed, induct-tests}
 use Rattle.model.specs.RefusalLaws.{accepted-called, accepted-answer}
 use Rattle.model.proofs.TodayLaws.{talliable}
 use Rattle.model.proofs.HouseLaws.{variation-by-code, close-due}

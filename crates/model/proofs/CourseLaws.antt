@@ -16,7 +16,7 @@ use Rattle.model.specs.Refusals.{first_of, refusal}
 use Rattle.model.specs.Answers.{called, Answer, accepts, answer}
 use Rattle.model.specs.History.{Step, step, run_from, run, noted, log, answers_to}
 use Rattle.model.specs.Entries.{starts, opens}
-use Rattle.model.specs.StepLaws.{Passed, passes}
+use Rattle.model.proofs.StepLaws.{Passed, passes}
 use Rattle.model.specs.RefusalLaws.{accepted-called, accepted-answer}
 
 -- ---- more calls on a book, the latest first

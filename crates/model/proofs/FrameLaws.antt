@@ -16,7 +16,7 @@ use Rattle.model.specs.Calls.{Call, start, enrol, pay_in, pay_out, release, set_
 use Rattle.model.specs.Effects.{with_held, started, enrolled, paid, codes_on, opened, lots_for, traded, quoted, settled_up, is_ending, mark_of, codes_left, closed_day, after}
 use Rattle.model.specs.Refusals.{is_started, is_shut, is_open, tests}
 use Rattle.model.specs.Kept.{Framed}
-use Rattle.model.specs.StepLaws.{Passed, needed}
+use Rattle.model.proofs.StepLaws.{Passed, needed}
 
 -- ---- a new book
 pub framed-new : Framed new

@@ -22,7 +22,7 @@ use Rattle.model.specs.Refusals.{tests}
 use Rattle.model.specs.History.{variation_in}
 use Rattle.model.specs.Kept.{Framed, LevelIn, Owing}
 use Rattle.model.specs.SumLaws.{Total, total_ext, total-add, total-sub, total-more, total-over}
-use Rattle.model.specs.StepLaws.{Passed, needed}
+use Rattle.model.proofs.StepLaws.{Passed, needed}
 use Rattle.model.proofs.LevelLaws.{level-variation}
 
 -- ---- payments leave what is due

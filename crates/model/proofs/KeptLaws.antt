@@ -10,8 +10,8 @@ use Rattle.model.specs.Answers.{kept, called}
 use Rattle.model.specs.History.{run_from, run}
 use Rattle.model.specs.Bounds.{Bounded}
 use Rattle.model.specs.Kept.{Kept}
-use Rattle.model.specs.StepLaws.{Accepted, accepted-by}
-use Rattle.model.specs.RangeLaws.{ranges}
+use Rattle.model.proofs.StepLaws.{Accepted, accepted-by}
+use Rattle.model.proofs.RangeLaws.{ranges}
 use Rattle.model.proofs.FrameLaws.{framed-new, framed-after}
 use Rattle.model.proofs.ListedLaws.{listed-new, listed-after, listed-once, listed-few, listed-six}
 use Rattle.model.proofs.LevelLaws.{level-new, level-after}

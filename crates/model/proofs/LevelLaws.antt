@@ -17,7 +17,7 @@ use Rattle.model.specs.Effects.{lots_for, codes_on, is_ending, after}
 use Rattle.model.specs.Refusals.{tests}
 use Rattle.model.specs.Kept.{Framed, LevelIn}
 use Rattle.model.specs.SumLaws.{only, Total, total-none, total_ext, total-add, total-sub, total-scale, total-only, total-more}
-use Rattle.model.specs.StepLaws.{Passed, needed}
+use Rattle.model.proofs.StepLaws.{Passed, needed}
 
 -- ---- positions of all account numbers in one contract, where who is no member has none
 record Balanced (ms : List ℕ) (p : ℕ → Position) : Type 0 where

@@ -21,3 +21,5 @@ pub mod CourseLaws
 pub mod NeighbourLaws
 pub mod TicketLaws
 pub mod SplitLaws
+pub mod StepLaws
+pub mod RangeLaws

@@ -26,7 +26,7 @@ use Rattle.model.specs.Bounds.{closed_days}
 use Rattle.model.specs.Promises.{OpenKept}
 use Rattle.model.specs.Kept.{Framed, codes_at, is_dated, Listed}
 use Rattle.calendar.specs.CodeLaws.{is_past, past-none, past-later, code_below, codes-distinct, codes-length, code_runs, code-lasts, code_stays}
-use Rattle.model.specs.StepLaws.{Passed, needed, accepted-by, induct-tests}
+use Rattle.model.proofs.StepLaws.{Passed, needed, accepted-by, induct-tests}
 use Rattle.model.specs.RefusalLaws.{accepted-called}
 
 -- ---- what the tests on the point tell

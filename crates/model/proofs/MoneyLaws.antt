@@ -23,7 +23,7 @@ use Rattle.model.specs.Refusals.{tests}
 use Rattle.model.specs.History.{Step, step, run, log, variation_in, booked, booked_to, paid_in, paid_out, moved_to}
 use Rattle.model.specs.Kept.{Framed, Kept}
 use Rattle.model.specs.SumLaws.{only, Total, total-none, total_ext, total-add, total-only, total-more}
-use Rattle.model.specs.StepLaws.{Passed, needed, induct}
+use Rattle.model.proofs.StepLaws.{Passed, needed, induct}
 use Rattle.model.proofs.ListedLaws.{listed_below}
 use Rattle.model.proofs.HouseLaws.{in-due, out-due, release-due, replaced-same, grows, close-due, settle-due, variations-cancel}
 use Rattle.model.proofs.KeptLaws.{known, kept-once}

@@ -31,13 +31,13 @@ use Rattle.model.specs.Calls.{Trade, trade, call_of}
 use Rattle.model.specs.Effects.{lots_for, traded, after}
 use Rattle.model.specs.Refusals.{needs, first_of, in_hours, side_totals, ranged, tests, refusal}
 use Rattle.model.specs.Bounds.{total_in, limit_in}
-use Rattle.model.specs.StepLaws.{Passed, passed_first, needed, accepted-by}
+use Rattle.model.proofs.StepLaws.{Passed, passed_first, needed, accepted-by}
 use Rattle.model.specs.RefusalLaws.{accepted-called}
 use Rattle.model.proofs.FrameLaws.{dealt-none}
 use Rattle.model.proofs.TradeLaws.{side-is}
 use Rattle.model.specs.Promises.{side_of}
 use Rattle.model.specs.Entries.{trades, written}
-use Rattle.model.specs.RangeLaws.{ranged-tells}
+use Rattle.model.proofs.RangeLaws.{ranged-tells}
 use Rattle.model.specs.Tickets.{Split, whole, first, second, position_in, Offered, AsWritten, second_step, has_room_for_both, second_refusal, WhatPartsMeet, OneSided, SafeFor, SafeSplit, SafeAgain}
 use Rattle.model.proofs.TicketLaws.{positions-alike, same_end}
 

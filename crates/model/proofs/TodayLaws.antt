@@ -14,7 +14,7 @@ use Rattle.model.specs.Calls.{Call, start, enrol, pay_in, pay_out, release, set_
 use Rattle.model.specs.Effects.{after}
 use Rattle.model.specs.Refusals.{is_open, tests}
 use Rattle.model.specs.History.{Step, step, run, log, Dated, todays_trades, todays_quotes, trades_in, quotes_in}
-use Rattle.model.specs.StepLaws.{Passed, needed, induct-tests}
+use Rattle.model.proofs.StepLaws.{Passed, needed, induct-tests}
 use Rattle.model.proofs.FrameLaws.{unstarted-shut, shut-closed}
 
 -- ---- one more, by its code

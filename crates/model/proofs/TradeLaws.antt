@@ -15,7 +15,7 @@ use Rattle.model.specs.Calls.{Trade, call_of, trade}
 use Rattle.model.specs.Effects.{traded, after}
 use Rattle.model.specs.Refusals.{side_totals, tests, refusal}
 use Rattle.model.specs.Answers.{called, answer, both_sides}
-use Rattle.model.specs.StepLaws.{Passed, needed, accepted-by}
+use Rattle.model.proofs.StepLaws.{Passed, needed, accepted-by}
 use Rattle.model.proofs.FrameLaws.{bystander-still}
 use Rattle.model.specs.RefusalLaws.{accepted-called, accepted-answer}
 use Rattle.model.specs.Bounds.{total_in, limit_in}

@@ -28,7 +28,7 @@ use Rattle.model.specs.Refusals.{tests}
 use Rattle.model.specs.History.{Step, step, run, log, at_trade, at_close, Dated, dated, trades, closed_trades, todays_trades, is_side_in, own_trades, deal_for, deals_of, booked, latest}
 use Rattle.model.specs.Promises.{worth_at}
 use Rattle.model.specs.Kept.{Listed}
-use Rattle.model.specs.StepLaws.{Passed, needed, induct}
+use Rattle.model.proofs.StepLaws.{Passed, needed, induct}
 use Rattle.model.proofs.FrameLaws.{dealt-none}
 use Rattle.model.proofs.ListedLaws.{listed-after, has_passed, listed-runs, open-keeps, not-passed, ending-passes}
 use Rattle.model.proofs.KeptLaws.{known}

@@ -10,7 +10,7 @@ use Rattle.model.specs.Refusals.{tests}
 use Rattle.model.specs.History.{Step, step, run, log, booked}
 use Rattle.model.specs.Kept.{Kept}
 use Rattle.model.specs.SumLaws.{Total, total-none, total-add, total-more}
-use Rattle.model.specs.StepLaws.{Passed, needed, induct}
+use Rattle.model.proofs.StepLaws.{Passed, needed, induct}
 use Rattle.model.proofs.LevelLaws.{level-variation}
 use Rattle.model.proofs.KeptLaws.{known}
 

@@ -20,7 +20,7 @@ use Rattle.holdings.specs.declared.Limits.{Limits}
 use Rattle.holdings.specs.declared.Holdings.{Holdings}
 use Rattle.closing.specs.Bounds.{GoodDayEnd}
 use Rattle.closing.specs.DayEnd.{at_close, with_core}
-use Rattle.closing.specs.BoundLaws.{core-sound, full-amount}
+use Rattle.closing.proofs.BoundLaws.{core-sound, full-amount}
 use Rattle.funds.specs.Funds.{billed}
 use Rattle.accounts.specs.Accounts.{closed, refreshed}
 use Rattle.accounts.specs.Bounds as accounts

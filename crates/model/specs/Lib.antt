@@ -11,9 +11,7 @@ pub mod Kept
 pub mod Entries
 pub mod Examples
 pub mod SumLaws
-pub mod StepLaws
 pub mod RefusalLaws
-pub mod RangeLaws
 pub mod NaturalLaws
 pub mod SizedLaws
 pub mod TermLaws

@@ -7,7 +7,7 @@ use Rattle.lists.specs.All.{All, none_left, and-more, all-weaken, all-last}
 use Rattle.lists.specs.HasLaws.{when_true, when_false}
 use Rattle.scan.specs.Text.{before, byte_end, most}
 use Rattle.decimal.specs.Decimal.{digit, digits_in, numeral, minus}
-use Rattle.decimal.specs.DecimalLaws.{by_ten, digits-one, digits_more, numeral_reads}
+use Rattle.decimal.proofs.DecimalLaws.{by_ten, digits-one, digits_more, numeral_reads}
 use Rattle.folding.specs.Fold.{unfolded}
 use Rattle.folding.specs.FoldLaws.{unfolded-even, unfolded-odd}
 use Rattle.wording.specs.Text.{two_digits, four_digits, percent, rate_text, clock_text, time_text, bid, offer, side_text, value_text}

@@ -10,7 +10,7 @@ use Rattle.std.proofs.Math.Seq.{take-append_seam, drop-append_seam}
 use Rattle.lists.specs.All.{All, none_left, and-more, all-weaken}
 use Rattle.scan.specs.Text.{before, byte_end, most}
 use Rattle.decimal.specs.Put.{Put}
-use Rattle.decimal.specs.PutLaws.{put-length}
+use Rattle.decimal.proofs.PutLaws.{put-length}
 use Rattle.wording.specs.Text.{value_text}
 use Rattle.wording.specs.declared.values.Style.{Style}
 use Rattle.parsing.specs.declared.parts.Valued.{Valued}

@@ -5,7 +5,7 @@ use Rattle.std.proofs.lemmas.Bool.{false≢true}
 use Rattle.std.proofs.Math.Seq.{take-append_seam, slice_empty}
 use Rattle.numbers.specs.Below.{Small}
 use Rattle.standing.specs.Standing.{view}
-use Rattle.decimal.specs.PutLaws.{put-none, put-more}
+use Rattle.decimal.proofs.PutLaws.{put-none, put-more}
 use Rattle.lines.specs.Lines.{bad_text}
 use Rattle.window.specs.declared.Window.{Window}
 use Rattle.window.specs.Window.{held, Refilled}

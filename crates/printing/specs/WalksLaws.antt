@@ -4,7 +4,7 @@ use Rattle.std.proofs.Common.{subst, arith}
 use Rattle.numbers.specs.Below.{Small}
 use Rattle.records.specs.Records.{Parsed, unread, parsed, reading}
 use Rattle.standing.specs.Made.{Sound}
-use Rattle.decimal.specs.PutLaws.{put-length}
+use Rattle.decimal.proofs.PutLaws.{put-length}
 use Rattle.lines.specs.Lines.{answer_text}
 use Rattle.lines.specs.LengthLaws.{answer-length, bad-length}
 use Rattle.printing.specs.declared.one_record.Printed.{Printed}

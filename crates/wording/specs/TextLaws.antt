@@ -4,7 +4,7 @@ use Rattle.std.proofs.Math.Bool.{and-eq-true_iff}
 use Rattle.std.proofs.Common.{arith, leb-true, length-append, length-take}
 use Rattle.lists.specs.Block.{block}
 use Rattle.lists.specs.Keep.{cond-keeps}
-use Rattle.decimal.specs.PutLaws.{numeral-length}
+use Rattle.decimal.proofs.PutLaws.{numeral-length}
 use Rattle.fields.specs.Fields.{count, shaped}
 use Rattle.fields.specs.FieldLaws.{counts-most, shape-tells}
 use Rattle.folding.specs.Fold.{unfolded}

@@ -4,7 +4,7 @@ use Rattle.std.proofs.Common.{sym, ap, ◌∙◌, append_assoc, append-nil, add-
 use Rattle.lists.specs.Block.{block}
 use Rattle.lists.specs.BlockLaws.{block_last}
 use Rattle.decimal.specs.Put.{Put}
-use Rattle.decimal.specs.PutLaws.{put-none, put-more, put-length}
+use Rattle.decimal.proofs.PutLaws.{put-none, put-more, put-length}
 use Rattle.wording.specs.Text.{field_text, fields_text, exception_text}
 
 -- ---- one more

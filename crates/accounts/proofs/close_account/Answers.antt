@@ -8,7 +8,7 @@ use Rattle.whole.specs.Amounts.{Amount}
 use Rattle.holdings.specs.Bounds as holdings
 use Rattle.holdings.proofs.BoundLaws.{sound-wider}
 use Rattle.closing.specs.DayEnd.{at_close, requirement, with_core_by}
-use Rattle.closing.specs.BoundLaws.{close-sound, requirement-amount}
+use Rattle.closing.proofs.BoundLaws.{close-sound, requirement-amount}
 use Rattle.funds.specs.Funds.{billed}
 use Rattle.funds.specs.Bounds.{requirement_most}
 use Rattle.accounts.specs.Accounts.{bill_of, closed}

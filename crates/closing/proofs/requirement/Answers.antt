@@ -8,7 +8,7 @@ use Rattle.whole.specs.Amounts.{Amount, amount-within}
 use Rattle.holdings.specs.Holdings.{basis}
 use Rattle.holdings.proofs.BoundLaws.{basis-amount}
 use Rattle.closing.specs.DayEnd.{over_limit, requirement}
-use Rattle.closing.specs.BoundLaws.{over-amount}
+use Rattle.closing.proofs.BoundLaws.{over-amount}
 use Rattle.closing.proofs.requirement.Goals as goal
 use Rattle.closing.proofs.requirement.Goals.{After-basis-least, After-over_limit-over, Start}
 

@@ -4,7 +4,7 @@ use mathlib.Core.Path.{sym, ap, ◌∙◌}
 use Prim.Native.Nat.{◌≤◌}
 use lib.ListN.{length}
 use lib.Seq.{length-take-le}
-use Rattle.decimal.specs.DecimalLaws.{spelled}
+use Rattle.decimal.proofs.DecimalLaws.{spelled}
 use Rattle.decimal.proofs.Powers.{count_le}
 use Rattle.decimal.proofs.digits_of.Goals as goal
 

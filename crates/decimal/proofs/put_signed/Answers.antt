@@ -9,7 +9,7 @@ use lib.Signed.{◌<ℤ◌, ◌≤ℤ◌}
 use Rattle.whole.specs.Machine.{back}
 use Rattle.whole.specs.Tests.{lt_yes, lt_no}
 use Rattle.decimal.specs.Decimal.{numeral, minus, signed_numeral}
-use Rattle.decimal.specs.PutLaws.{put-more, numeral-length}
+use Rattle.decimal.proofs.PutLaws.{put-more, numeral-length}
 use Rattle.decimal.proofs.put_signed.Goals as goal
 use Rattle.decimal.proofs.put_signed.Goals.{After-size-size}
 

@@ -5,7 +5,7 @@ use Rattle.ranges.specs.Ranges.{refusal_of}
 use Rattle.records.specs.Records.{entry}
 use Rattle.model.specs.Refusals.{ranged}
 use Rattle.model.specs.Ranged.{Ranged}
-use Rattle.model.specs.RangeLaws.{ranges}
+use Rattle.model.proofs.RangeLaws.{ranges}
 use Rattle.book.specs.declared.calls.Answer.TheVariants.{Done}
 use Rattle.book.specs.CalledLaws.{made-answered, answered-called}
 use Rattle.book.specs.KindLaws.{first_done, later_same, checked_refused}

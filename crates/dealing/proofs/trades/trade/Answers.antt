@@ -5,7 +5,7 @@ use Rattle.model.specs.Book.{Book}
 use Rattle.standing.specs.Standing.{view}
 use Rattle.standing.specs.StandingLaws.{sound-kept, sound-holds}
 use Rattle.standing.specs.SoundLaws.{sound-long, sound-header, sound-members, sound-listed}
-use Rattle.dealing.specs.TradedLaws.{refused-traded}
+use Rattle.dealing.proofs.TradedLaws.{refused-traded}
 use Rattle.dealing.proofs.trades.trade.Goals as goal
 use Rattle.dealing.proofs.trades.trade.Goals.{Start}
 

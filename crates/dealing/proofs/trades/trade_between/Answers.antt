@@ -17,8 +17,8 @@ use Rattle.standing.specs.StandingLaws.{sound-kept, sound-holds}
 use Rattle.standing.specs.DealLaws.{margins-sound, margins-are, buyer-lots, seller-lots}
 use Rattle.dealing.specs.Dealing.{trade_of, Traded}
 use Rattle.dealing.specs.Parties.{Answers}
-use Rattle.dealing.specs.TradedLaws.{refused-traded, accepted-traded}
-use Rattle.dealing.specs.DealsLaws.{moved, deals-long, row-k, row_below, account-in, account-sound, moved-is, answers, sides, stored, sides-writable, all-written}
+use Rattle.dealing.proofs.TradedLaws.{refused-traded, accepted-traded}
+use Rattle.dealing.proofs.DealsLaws.{moved, deals-long, row-k, row_below, account-in, account-sound, moved-is, answers, sides, stored, sides-writable, all-written}
 use Rattle.dealing.proofs.trades.trade_between.Goals as goal
 use Rattle.dealing.proofs.trades.trade_between.Goals.{After-judge-answer, After-load_margins-margins, After-store_account, After-store_account-2, After-with_lots-bought, After-with_lots-sold, Start}
 

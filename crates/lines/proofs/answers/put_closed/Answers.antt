@@ -1,7 +1,7 @@
 use Rattle.std.proofs.Common.{[], ◌∷◌, arith, rules}
 use Rattle.decimal.specs.Decimal.{numeral}
 use Rattle.decimal.specs.Put.{Put}
-use Rattle.decimal.specs.PutLaws.{put-more, numeral-length}
+use Rattle.decimal.proofs.PutLaws.{put-more, numeral-length}
 use Rattle.standing.specs.Standing.{view}
 use Rattle.lines.specs.Lines.{ok, line}
 use Rattle.lines.specs.LineLaws.{Begun, begun, room-left, field-more, number_more, line-ends}

@@ -3,7 +3,7 @@ use native.Mathlib.Omega.{arith}
 use borrow.Author.Rules.{rules}
 use Rattle.decimal.specs.Decimal.{numeral}
 use Rattle.decimal.specs.Put.{Put}
-use Rattle.decimal.specs.PutLaws.{put-more, numeral-length}
+use Rattle.decimal.proofs.PutLaws.{put-more, numeral-length}
 use Rattle.model.specs.Book.{Book}
 use Rattle.standing.specs.Standing.{view}
 use Rattle.lines.specs.Lines.{ok, line}

@@ -1,6 +1,6 @@
 use native.Mathlib.Omega.{arith}
 use borrow.Author.Rules.{rules}
-use Rattle.decimal.specs.PutLaws.{put-more, numeral-length}
+use Rattle.decimal.proofs.PutLaws.{put-more, numeral-length}
 use Rattle.lines.specs.Lines.{spaced}
 use Rattle.lines.proofs.answers.put_done.Statement.{statement}
 use Rattle.lines.proofs.answers.put_done.Tie as tie

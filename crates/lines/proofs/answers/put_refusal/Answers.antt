@@ -1,6 +1,6 @@
 use Rattle.std.proofs.Common.{[], ◌∷◌, arith, rules}
 use Rattle.decimal.specs.Decimal.{numeral}
-use Rattle.decimal.specs.PutLaws.{numeral-length}
+use Rattle.decimal.proofs.PutLaws.{numeral-length}
 use Rattle.lines.specs.Lines.{no}
 use Rattle.lines.specs.LineLaws.{Begun, begun, room-left, field-more, number_more}
 use Rattle.lines.proofs.answers.put_refusal.Goals as goal

@@ -1,7 +1,7 @@
 use Rattle.whole.specs.Machine.{told}
 use Rattle.std.specs.Prelude.{length}
 use Rattle.std.proofs.Common.{arith, ◌∙◌, length-append}
-use Rattle.decimal.specs.PutLaws.{put-more}
+use Rattle.decimal.proofs.PutLaws.{put-more}
 use Rattle.model.specs.Answers.{report_of}
 use Rattle.standing.specs.Standing.{view}
 use Rattle.lines.specs.Lines.{member_lines, house_line}

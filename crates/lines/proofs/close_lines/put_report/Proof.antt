@@ -3,7 +3,7 @@ use native.Mathlib.Omega.{arith}
 use borrow.Author.Rules.{rules}
 use lib.ListN.{length-append}
 use Rattle.whole.specs.Machine.{told}
-use Rattle.decimal.specs.PutLaws.{put-more}
+use Rattle.decimal.proofs.PutLaws.{put-more}
 use Rattle.model.specs.Answers.{Report, report_of}
 use Rattle.standing.specs.Standing.{view}
 use Rattle.lines.specs.Lines.{member_lines, house_line}

@@ -1,7 +1,7 @@
 use native.Mathlib.Omega.{arith}
 use borrow.Author.Rules.{rules}
 use Rattle.whole.specs.Machine.{back}
-use Rattle.decimal.specs.PutLaws.{put-more, signed-length}
+use Rattle.decimal.proofs.PutLaws.{put-more, signed-length}
 use Rattle.lines.proofs.parts.put_signed_field.Statement.{statement}
 use Rattle.lines.proofs.parts.put_signed_field.Tie as tie
 

@@ -1,5 +1,5 @@
 use native.Mathlib.Omega.{arith}
-use Rattle.decimal.specs.PutLaws.{numeral-length}
+use Rattle.decimal.proofs.PutLaws.{numeral-length}
 use borrow.Author.Rules.{rules}
 use Rattle.pages.proofs.pieces.number_piece.Statement.{statement}
 use Rattle.pages.proofs.pieces.number_piece.Tie as tie

@@ -1,5 +1,5 @@
-use Rattle.decimal.specs.DecimalLaws.{spelled}
-use Rattle.decimal.specs.PutLaws.{numeral-length}
+use Rattle.decimal.proofs.DecimalLaws.{spelled}
+use Rattle.decimal.proofs.PutLaws.{numeral-length}
 use native.Mathlib.Omega.{arith}
 -- Each digit takes two places at most.
 use Prim.Native.Nat.{◌+◌, ◌*◌, ◌-◌, ◌≤◌}

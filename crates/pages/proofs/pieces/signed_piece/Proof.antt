@@ -1,7 +1,7 @@
 use mir.Syntax.{w64}
 use mir.Val.{to_z, of_z}
 use native.Mathlib.Omega.{arith}
-use Rattle.decimal.specs.PutLaws.{signed-length}
+use Rattle.decimal.proofs.PutLaws.{signed-length}
 use borrow.Author.Rules.{rules}
 use Rattle.pages.proofs.pieces.signed_piece.Statement.{statement}
 use Rattle.pages.proofs.pieces.signed_piece.Tie as tie

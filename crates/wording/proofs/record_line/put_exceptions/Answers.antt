@@ -6,7 +6,7 @@ use native.Mathlib.Omega.{arith}
 use lib.ListN.{length, get_or, take, length-take}
 use lib.Seq.{take_all}
 use Rattle.lists.specs.Block.{block}
-use Rattle.decimal.specs.PutLaws.{put-more, numeral-length}
+use Rattle.decimal.proofs.PutLaws.{put-more, numeral-length}
 use Rattle.wording.specs.Text.{exception_text}
 use Rattle.wording.specs.TextLaws.{exception-length, exceptions-length}
 use Rattle.wording.specs.WalkLaws.{exceptions-more, walk_begins, walk-room, walk-next}

@@ -1,5 +1,5 @@
 use native.Mathlib.Omega.{arith}
-use Rattle.decimal.specs.PutLaws.{put-more}
+use Rattle.decimal.proofs.PutLaws.{put-more}
 use Rattle.wording.specs.Text.{style_of}
 use Rattle.wording.specs.TextLaws.{label-length, value-length}
 use Rattle.wording.proofs.record_line.put_field.Goals as goal

@@ -3,7 +3,7 @@ use Prim.Native.Nat.{◌≤◌}
 use native.Mathlib.Omega.{arith}
 use lib.ListN.{length, take, length-append}
 use Rattle.lists.specs.Block.{block}
-use Rattle.decimal.specs.PutLaws.{put-more}
+use Rattle.decimal.proofs.PutLaws.{put-more}
 use Rattle.fields.specs.Fields.{count}
 use Rattle.fields.specs.FieldLaws.{shape-tells, counted, uncounted, counts-most}
 use Rattle.wording.specs.Text.{fields_text, exception_text}

@@ -1,7 +1,7 @@
 -- The whole per cents are put first, and take up twenty places at most.
 use Prim.Native.Nat.{◌/◌}
 use native.Mathlib.Omega.{arith}
-use Rattle.decimal.specs.PutLaws.{put-more, numeral-length}
+use Rattle.decimal.proofs.PutLaws.{put-more, numeral-length}
 use Rattle.wording.proofs.values.put_percent.Goals as goal
 
 pub put_word-point-requires : goal.put_word-point-requires

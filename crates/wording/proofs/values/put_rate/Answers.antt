@@ -9,7 +9,7 @@ use lib.Signed.{◌<ℤ◌, ◌≤ℤ◌}
 use Rattle.whole.specs.Machine.{back}
 use Rattle.whole.specs.Tests.{lt_yes, lt_no}
 use Rattle.decimal.specs.Decimal.{minus}
-use Rattle.decimal.specs.PutLaws.{put-more}
+use Rattle.decimal.proofs.PutLaws.{put-more}
 use Rattle.wording.specs.Text.{percent, rate_text}
 use Rattle.wording.specs.TextLaws.{percent-length}
 use Rattle.wording.proofs.values.put_rate.Goals as goal

@@ -15,7 +15,7 @@ use Rattle.records.specs.Records.{Entry, entry}
 use Rattle.model.specs.Calls.{call_of}
 use Rattle.model.specs.Refusals.{ranged}
 use Rattle.model.specs.Ranged.{EachMost, Ranged}
-use Rattle.model.specs.StepLaws.{needed}
+use Rattle.model.proofs.StepLaws.{needed}
 
 -- ---- one field
 rate-size : (n : ℕ) → within_ceilings rate n ≡ true → Within 100000 (unfolded n)

@@ -3,7 +3,7 @@ use Rattle.std.specs.Prelude.{◌≡◌, refl, List, [], ◌∷◌, ◌++◌, �
 use Rattle.std.proofs.Common.{sym, ap, ◌∙◌, arith, length-append, take-append-drop}
 use Rattle.lists.specs.Parts.{with_part-join, with_part-length}
 use Rattle.decimal.specs.Decimal.{digit, digits_in, numeral, signed_numeral}
-use Rattle.decimal.specs.DecimalLaws.{by_ten, digits-one, digits_more}
+use Rattle.decimal.proofs.DecimalLaws.{by_ten, digits-one, digits_more}
 use Rattle.decimal.specs.Put.{Put}
 
 pub put-none : (room : List ℕ) (at : ℕ) → Put room at [] at room

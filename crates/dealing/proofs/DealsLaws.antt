@@ -32,7 +32,7 @@ use Rattle.dealing.specs.declared.Dealt.{Dealt}
 use Rattle.dealing.specs.Sides.{Moved, judged}
 use Rattle.dealing.specs.Parties.{Answers, Deals}
 use Rattle.dealing.specs.Written.{traded_row, Writable, Written}
-use Rattle.dealing.specs.TradedLaws.{judged-answers}
+use Rattle.dealing.proofs.TradedLaws.{judged-answers}
 
 -- an account that a trade has moved is as small as its tests ask
 pub moved : {a x : Account} {lots rate : ℤ} (row : ℕ) → holdings.Sound 10000 a.holdings → Within 1000 lots → Within 100000 rate

@@ -1,0 +1,2 @@
+pub mod DayEndLaws
+pub mod BoundLaws

@@ -1,0 +1,2 @@
+pub mod TradedLaws
+pub mod DealsLaws
