@@ -1,4 +1,6 @@
 // Reading numbers: one number and several of them, from a place of some bytes on.
+#![tactic(auto)]
+
 ghost use Rattle.std.specs.Prelude.{◌≡◌, ◌<◌, ◌≤◌, length, drop};
 ghost use Rattle.numbers.specs.Several.{many};
 ghost use Rattle.decoding.specs.Place.{number_at, ended, stored_from};

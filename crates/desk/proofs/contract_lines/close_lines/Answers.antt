@@ -3,7 +3,7 @@ use Rattle.desk.specs.LineLaws.{closed-sound, stood-before, closed-table, lines-
 use Rattle.desk.proofs.contract_lines.close_lines.Goals as goal
 
 pub each_line-lines-requires : goal.each_line-lines-requires
-each_line-lines-requires c = let j = c.requires.just in ((closed-sound j, stood-before j), closed-table j)
+each_line-lines-requires c = let j = c.requires.just in record { sound = (closed-sound j, stood-before j); table = closed-table j }
 
 pub returns : goal.returns
 returns c = record {

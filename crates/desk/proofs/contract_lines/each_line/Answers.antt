@@ -20,17 +20,16 @@ pub line_of-line-requires : goal.line_of-line-requires
 line_of-line-requires c =
     let l = c.loop-k in
     let b = c.requires.sound.1 in
-    let q : l.k < 6 = omega arith in (
-      (
+    let q : l.k < 6 = omega arith in record {
+      sound = (
         c.requires.sound.0,
         subst (λ ks. has (get_or c.args.before.codes l.k 0) ks ≡ true) b.codes (has-at c.args.before.codes l.k (omega (arith, b.six))),
-      ),
-      (
-        (pass (b.nets l.k q) tt tt, (pass (b.previous l.k q) tt tt, b.rates l.k q)),
+      );
+      within = (pass (b.nets l.k q) tt tt, (pass (b.previous l.k q) tt tt, b.rates l.k q));
+      table =
         lined-table (view c.args.counts.now c.args.money.now) c.args.labels.now c.args.amounts.now c.args.used c.args.before
-            l.invariant.0 c.requires.table,
-      ),
-    )
+            l.invariant.0 c.requires.table;
+    }
 
 pub loop-k-preserved : goal.loop-k-preserved
 loop-k-preserved c =

@@ -13,7 +13,7 @@ use Rattle.desk.proofs.contract_lines.each_line.Given as goal
 
 abbrev pub invariant-loop-k : goal.invariant-loop-k
 invariant-loop-k l =
-    LinedTo (view l.counts l.money) l.labels l.initial.amounts l.used (record { l.codes = l.codes; l.previous = l.previous; l.nets = l.nets }) l.k l.lines l.amounts × (l.k ≤ 6)
+    LinedTo (view l.counts l.money) l.labels l.initial.amounts l.used (record { codes = l.codes; previous = l.previous; nets = l.nets }) l.k l.lines l.amounts × (l.k ≤ 6)
 
 abbrev pub decreases-loop-k : goal.decreases-loop-k
 decreases-loop-k l = 6 - l.k

@@ -33,47 +33,47 @@ shown c =
 
 rate-within : (c : In-At) → Within 100000 c.in-At.settled.rate
 rate-within c =
-    subst (λ (x : Settled). Within 100000 x.rate) (sym (shown c)) c.requires.within.0.1.1
+    subst (λ (x : Settled). Within 100000 x.rate) (sym (shown c)) c.requires.within.1.1
 
 -- what was carried over earns
 module _ (c : After-worth-carried) where
   abbrev found : In-At
-  found = c.before.before.before.before
+  found = (goal.at.After-worth-carried c).In-At
 
   abbrev start : Start
-  start = found.before.before.before.before
+  start = (goal.at.After-worth-carried c).Start
 
   carried-is : c.worth-carried.result ≡ worth_at (rate_in (after start) start.args.code) (record { lots = start.args.net; rate = start.args.previous })
   carried-is =
       c.worth-carried.ensures
-      ∙ worth-parts (arg start.pre.1.0.0 tt).eq (arg start.pre.1.0.1.0 tt).eq
+      ∙ worth-parts (arg start.requires.within.0 tt).eq (arg start.requires.within.1.0 tt).eq
       ((arg (rate-within found) tt).eq ∙ ap (λ (x : Settled). x.rate) (shown found))
 
   carried-within : Within 1000000000000 c.worth-carried.result
   carried-within =
       subst (Within 1000000000000) (sym carried-is)
-      (within-* start.pre.1.0.0 (within-* (lit (pos 250)) (within-- start.pre.1.0.1.1 start.pre.1.0.1.0)))
+      (within-* start.requires.within.0 (within-* (lit (pos 250)) (within-- start.requires.within.1.1 start.requires.within.1.0)))
 
 -- what the trades earn, and the sum
 module _ (c : After-amounts-1) where
   abbrev worth : After-worth-carried
-  worth = c.before.before.before
+  worth = (goal.at.After-amounts-1 c).After-worth-carried
 
   priced : let a = (start worth).args in
-      Priced a.labels.now a.amounts.now a.used a.code (rate_in (after (start worth)) a.code) c.price-made.result c.price-made.new.1.0
+      Priced a.labels.now a.amounts.now a.used a.code (rate_in (after (start worth)) a.code) c.price-made.result c.price-made.new.money
   priced =
       let a = (start worth).args in
-      subst (λ (z : ℤ). Priced a.labels.now a.amounts.now a.used a.code z c.price-made.result c.price-made.new.1.0)
+      subst (λ (z : ℤ). Priced a.labels.now a.amounts.now a.used a.code z c.price-made.result c.price-made.new.money)
       ((arg (rate-within (found worth)) tt).eq ∙ ap (λ (x : Settled). x.rate) (shown (found worth)))
       c.price-made.ensures
 
   made-within : Within 500000000000000 c.price-made.result
   made-within =
       let s = start worth in
-      let t = s.pre.1.1 in
-      sum_fits s.args.code _ s.args.labels.now s.args.amounts.now s.args.used priced t.few s.pre.1.0.1.1 t.modest (le_refl _)
+      let t = s.requires.table in
+      sum_fits s.args.code _ s.args.labels.now s.args.amounts.now s.args.used priced t.few s.requires.within.1.1 t.modest (le_refl _)
 
-  abbrev sum : Got 501000000000000 (c.price-made.result +ℤ worth.worth.result)
+  abbrev sum : Got 501000000000000 (c.price-made.result +ℤ worth.worth-carried.result)
   sum = got (add (arg made-within tt) (arg (carried-within worth) tt))
 
 pub returns-in_default : goal.returns-in_default
@@ -84,12 +84,12 @@ returns-in_default c =
 
 pub worth-carried-requires : goal.worth-carried-requires
 worth-carried-requires c =
-    (pass c.requires.within.0.0 tt tt, (pass c.requires.within.0.1.0 tt tt, pass (rate-within (goal.at.worth-carried-requires c).In-At) tt tt))
+    (pass c.requires.within.0 tt tt, (pass c.requires.within.1.0 tt tt, pass (rate-within (goal.at.worth-carried-requires c).In-At) tt tt))
 
 pub price-made-requires : goal.price-made-requires
 price-made-requires c =
-    let t = (start (goal.at.price-made-requires c).After-worth-carried).pre.1.1 in
-    ((t.few, (t.counts-long, t.money-long)), (pass (rate-within (found (goal.at.price-made-requires c).After-worth-carried)) tt tt, t.modest))
+    let t = (start (goal.at.price-made-requires c).After-worth-carried).requires.table in
+    record { used_bound = (t.few, (t.counts-long, t.money-long)); within = (pass (rate-within (found (goal.at.price-made-requires c).After-worth-carried)) tt tt, t.modest) }
 
 pub overflow_add-result : goal.overflow_add-result
 overflow_add-result c = fits (sum c).reads tt

@@ -7,11 +7,10 @@ feed-fed-requires c = followable-sound c.requires
 
 pub note-rows-requires : goal.note-rows-requires
 note-rows-requires c =
-    let t = c.requires.trailed in (
-      (t.counts-long, t.money-long),
-      fed-notable c.feed-fed.ensures c.in-Next.is
-          c.read_record-read.ensures t,
-    )
+    let t = c.requires.trailed in record {
+      labels_len = (t.counts-long, t.money-long);
+      notable = fed-notable c.feed-fed.ensures c.in-Next.is c.read_record-read.ensures t;
+    }
 
 pub returns-in-Malformed : goal.returns-in-Malformed
 returns-in-Malformed c = fed-unread c.feed-fed.ensures c.in-Malformed.is

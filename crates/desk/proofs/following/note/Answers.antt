@@ -14,7 +14,7 @@ Unwritten s rows x =
 
 pub note_trade-requires : goal.note_trade-requires
 note_trade-requires c =
-    (c.requires.labels_len, subst (λ x. Notable x (trade_in c.args.fields) c.args.used) c.in-BothSides.is c.requires.notable)
+    record { labels_len = c.requires.labels_len; notable = subst (λ x. Notable x (trade_in c.args.fields) c.args.used) c.in-BothSides.is c.requires.notable }
 
 pub returns-in-Refused : goal.returns-in-Refused
 returns-in-Refused c =
