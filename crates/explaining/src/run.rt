@@ -189,7 +189,7 @@ fn take_turns<R: Read>(
             &mut *notes,
             &mut *page,
             &mut *block,
-            &mut *input,
+            input,
             q,
             w,
             s,

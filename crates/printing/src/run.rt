@@ -160,11 +160,11 @@ fn take_turn<R: Read, W: Write>(
     ensures goes_on { GoesOn (length block.old) before.place result }
     ensures turn_taken { TurnTaken counts.old money.old before block.old result counts.new money.new block.new room.new }
 {
-    let w = refill(&mut *input, &mut *block, before, LONGEST);
+    let w = refill(input, &mut *block, before, LONGEST);
     let to = w.to;
     let p = print_block(counts, money, &block[..to], &mut *room, w);
     let used = p.used;
-    if !output.write_all(&room[..used]).is_ok() {
+    if output.write_all(&room[..used]).is_err() {
         return Turn::Ended(false);
     }
     turned(p, w)
@@ -185,9 +185,7 @@ fn take_turns<R: Read, W: Write>(
     let mut w = first_window();
     let mut turns = TURNS;
     while 0 < turns {
-        let turn = take_turn(
-            &mut *counts, &mut *money, &mut *input, &mut *output, &mut *block, &mut *room, w,
-        );
+        let turn = take_turn(counts, money, input, output, &mut *block, &mut *room, w);
         match turn {
             Turn::Ended(written) => return written,
             Turn::On(next) => {

@@ -19,11 +19,17 @@ use std::env::{Env, FillError};
 use std::io::{self, Write};
 use std::rt::Files;
 
-// Packs the text of one file into another.
-fn pack_file<R: Files>(rt: &R, name: &[u8], text: &[u8], events: &[u8]) {
+// Packs the text of one file into another. What is wrong with a line is said among the errors.
+fn pack_file<R: Files, E: Write>(
+    rt: &R,
+    errors: &mut E,
+    name: &[u8],
+    text: &[u8],
+    events: &[u8],
+) {
     let mut input = open(rt, name, text);
     let mut output = start(rt, name, events);
-    let _packed = pack(&mut input, &mut output);
+    let _packed = pack(&mut input, &mut output, errors);
 }
 
 // Unpacks one file into another.
@@ -73,10 +79,10 @@ fn compare<R: Files + Print>(rt: &R, name: &[u8], made: &[u8], stored: &[u8]) {
 }
 
 // Tries an example.
-fn try_example<R: Files + Print>(rt: &R, name: &[u8], q: Question) {
-    pack_file(rt, name, b".txt", b".events");
+fn try_example<R: Files + Print, E: Write>(rt: &R, errors: &mut E, name: &[u8], q: Question) {
+    pack_file(rt, errors, name, b".txt", b".events");
     unpack_file(rt, name, b".events", b".unpacked");
-    pack_file(rt, name, b".unpacked", b".again");
+    pack_file(rt, errors, name, b".unpacked", b".again");
     compare(rt, name, b".again", b".events");
     print_day(rt, name);
     compare(rt, name, b".printed", b".day");
@@ -123,7 +129,7 @@ fn question(account: u64, day: Number, code: Number) -> Question {
 }
 
 // Tries the example that an argument names, with the three after it.
-fn try_argument<R: Files + Env + Print>(rt: &R, i: usize)
+fn try_argument<R: Files + Env + Print, E: Write>(rt: &R, errors: &mut E, i: usize)
     requires { i + 4 ≤ 18446744073709551615 }
 {
     let Number::Of(account) = number_at(rt, i + 1) else {
@@ -134,18 +140,19 @@ fn try_argument<R: Files + Env + Print>(rt: &R, i: usize)
     let q = question(account, day, code);
     let mut name = [0u8; 4096];
     match rt.arg(i, &mut name) {
-        Ok(length) => try_example(rt, &name[..length], q),
-        Err(_) => try_example(rt, b"", q),
+        Ok(length) => try_example(rt, errors, &name[..length], q),
+        Err(_) => try_example(rt, errors, b"", q),
     }
 }
 
 fn main(rt: HostRuntime) {
+    let mut errors = rt.stderr();
     let mut i: usize = 1;
     while i <= usize::MAX - 4 {
         if !is_given(&rt, i + 3) {
             return;
         }
-        try_argument(&rt, i);
+        try_argument(&rt, &mut errors, i);
         i += 4;
     }
 }

@@ -1,4 +1,3 @@
-use borrow.Author.Rules.{rules}
 use Rattle.lines.proofs.answers.put_answer.Goals as goal
 
 pub returns-in-Refused : goal.returns-in-Refused

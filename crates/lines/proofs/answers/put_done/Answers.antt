@@ -1,5 +1,4 @@
 use native.Mathlib.Omega.{arith}
-use borrow.Author.Rules.{rules}
 use Rattle.decimal.proofs.PutLaws.{put-more, numeral-length}
 use Rattle.lines.specs.Lines.{spaced}
 use Rattle.lines.proofs.answers.put_done.Goals as goal

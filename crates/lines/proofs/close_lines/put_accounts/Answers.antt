@@ -20,14 +20,14 @@ loop-number-init c = walk_begins c.args.room.now c.args.at
 pub returns-in_default : goal.returns-in_default
 returns-in_default c =
     let answered : Pinned c.loop-number.from (view c.args.counts.now c.args.money.now).accounts.members c.member_from.result =
-        subst (Pinned c.loop-number.from (view c.args.counts.now c.args.money.now).accounts.members) (sym c.member_from.ensures) (pinned c.loop-number.from (view c.args.counts.now c.args.money.now).accounts.members) in
+    subst (Pinned c.loop-number.from (view c.args.counts.now c.args.money.now).accounts.members) (sym c.member_from.ensures) (pinned c.loop-number.from (view c.args.counts.now c.args.money.now).accounts.members) in
     walk_ends c.loop-number.invariant (subst (Pinned c.loop-number.from (view c.args.counts.now c.args.money.now).accounts.members) c.in_default.is answered)
 
 -- a number of the list is shown
 pub returns-in_default-bill_of : goal.returns-in_default-bill_of
 returns-in_default-bill_of c =
     let answered : Pinned c.loop-number.from (view c.args.counts.now c.args.money.now).accounts.members c.member_from.result =
-        subst (Pinned c.loop-number.from (view c.args.counts.now c.args.money.now).accounts.members) (sym c.member_from.ensures) (pinned c.loop-number.from (view c.args.counts.now c.args.money.now).accounts.members) in
+    subst (Pinned c.loop-number.from (view c.args.counts.now c.args.money.now).accounts.members) (sym c.member_from.ensures) (pinned c.loop-number.from (view c.args.counts.now c.args.money.now).accounts.members) in
     let lowest : LowestIs c.loop-number.from (view c.args.counts.now c.args.money.now).accounts.members c.in-Is.number = subst (Pinned c.loop-number.from (view c.args.counts.now c.args.money.now).accounts.members) c.in-Is.is answered in
     absurd (billed-there (view c.args.counts.now c.args.money.now) c.in-Is.number lowest.there (sym c.in_default-bill_of.is ∙ c.bill_of.ensures))
 
@@ -35,7 +35,7 @@ returns-in_default-bill_of c =
 pub put_account-next-requires : goal.put_account-next-requires
 put_account-next-requires c =
     let answered : Pinned c.loop-number.from (view c.args.counts.now c.args.money.now).accounts.members c.member_from.result =
-        subst (Pinned c.loop-number.from (view c.args.counts.now c.args.money.now).accounts.members) (sym c.member_from.ensures) (pinned c.loop-number.from (view c.args.counts.now c.args.money.now).accounts.members) in
+    subst (Pinned c.loop-number.from (view c.args.counts.now c.args.money.now).accounts.members) (sym c.member_from.ensures) (pinned c.loop-number.from (view c.args.counts.now c.args.money.now).accounts.members) in
     let lowest : LowestIs c.loop-number.from (view c.args.counts.now c.args.money.now).accounts.members c.in-Is.number = subst (Pinned c.loop-number.from (view c.args.counts.now c.args.money.now).accounts.members) c.in-Is.is answered in
     let wide : (k : ℕ) → length (line_in (view c.args.counts.now c.args.money.now) k) ≤ 120 = λ k. account-length k (bill_in (view c.args.counts.now c.args.money.now) k) in
     let fits : c.args.at + 64 * 120 ≤ length c.args.room.now = omega (arith, c.requires.1) in
@@ -44,14 +44,14 @@ put_account-next-requires c =
 pub overflow_add-from : goal.overflow_add-from
 overflow_add-from c =
     let answered : Pinned c.loop-number.from (view c.args.counts.now c.args.money.now).accounts.members c.member_from.result =
-        subst (Pinned c.loop-number.from (view c.args.counts.now c.args.money.now).accounts.members) (sym c.member_from.ensures) (pinned c.loop-number.from (view c.args.counts.now c.args.money.now).accounts.members) in
+    subst (Pinned c.loop-number.from (view c.args.counts.now c.args.money.now).accounts.members) (sym c.member_from.ensures) (pinned c.loop-number.from (view c.args.counts.now c.args.money.now).accounts.members) in
     let lowest : LowestIs c.loop-number.from (view c.args.counts.now c.args.money.now).accounts.members c.in-Is.number = subst (Pinned c.loop-number.from (view c.args.counts.now c.args.money.now).accounts.members) c.in-Is.is answered in
     omega (arith, (sound-kept c.requires.0).keys.numbers c.in-Is.number lowest.there)
 
 pub loop-number-smaller : goal.loop-number-smaller
 loop-number-smaller c =
     let answered : Pinned c.loop-number.from (view c.args.counts.now c.args.money.now).accounts.members c.member_from.result =
-        subst (Pinned c.loop-number.from (view c.args.counts.now c.args.money.now).accounts.members) (sym c.member_from.ensures) (pinned c.loop-number.from (view c.args.counts.now c.args.money.now).accounts.members) in
+    subst (Pinned c.loop-number.from (view c.args.counts.now c.args.money.now).accounts.members) (sym c.member_from.ensures) (pinned c.loop-number.from (view c.args.counts.now c.args.money.now).accounts.members) in
     let lowest : LowestIs c.loop-number.from (view c.args.counts.now c.args.money.now).accounts.members c.in-Is.number = subst (Pinned c.loop-number.from (view c.args.counts.now c.args.money.now).accounts.members) c.in-Is.is answered in
     omega (arith, (sound-kept c.requires.0).keys.numbers c.in-Is.number lowest.there, lowest.reached)
 
@@ -59,7 +59,7 @@ loop-number-smaller c =
 pub loop-number-preserved : goal.loop-number-preserved
 loop-number-preserved c =
     let answered : Pinned c.loop-number.from (view c.args.counts.now c.args.money.now).accounts.members c.member_from.result =
-        subst (Pinned c.loop-number.from (view c.args.counts.now c.args.money.now).accounts.members) (sym c.member_from.ensures) (pinned c.loop-number.from (view c.args.counts.now c.args.money.now).accounts.members) in
+    subst (Pinned c.loop-number.from (view c.args.counts.now c.args.money.now).accounts.members) (sym c.member_from.ensures) (pinned c.loop-number.from (view c.args.counts.now c.args.money.now).accounts.members) in
     let lowest : LowestIs c.loop-number.from (view c.args.counts.now c.args.money.now).accounts.members c.in-Is.number = subst (Pinned c.loop-number.from (view c.args.counts.now c.args.money.now).accounts.members) c.in-Is.is answered in
     let wide : (k : ℕ) → length (line_in (view c.args.counts.now c.args.money.now) k) ≤ 120 = λ k. account-length k (bill_in (view c.args.counts.now c.args.money.now) k) in
     let fits : c.args.at + 64 * 120 ≤ length c.args.room.now = omega (arith, c.requires.1) in

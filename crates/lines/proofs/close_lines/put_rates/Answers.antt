@@ -20,14 +20,14 @@ loop-code-init c = walk_begins c.args.room.now c.args.at
 pub returns-in_default : goal.returns-in_default
 returns-in_default c =
     let answered : Pinned c.loop-code.from (view c.args.counts.now c.args.money.now).results.codes c.settled_code_from.result =
-        subst (Pinned c.loop-code.from (view c.args.counts.now c.args.money.now).results.codes) (sym c.settled_code_from.ensures) (pinned c.loop-code.from (view c.args.counts.now c.args.money.now).results.codes) in
+    subst (Pinned c.loop-code.from (view c.args.counts.now c.args.money.now).results.codes) (sym c.settled_code_from.ensures) (pinned c.loop-code.from (view c.args.counts.now c.args.money.now).results.codes) in
     walk_ends c.loop-code.invariant (subst (Pinned c.loop-code.from (view c.args.counts.now c.args.money.now).results.codes) c.in_default.is answered)
 
 -- a code of the list is shown
 pub returns-in_default-rate_of : goal.returns-in_default-rate_of
 returns-in_default-rate_of c =
     let answered : Pinned c.loop-code.from (view c.args.counts.now c.args.money.now).results.codes c.settled_code_from.result =
-        subst (Pinned c.loop-code.from (view c.args.counts.now c.args.money.now).results.codes) (sym c.settled_code_from.ensures) (pinned c.loop-code.from (view c.args.counts.now c.args.money.now).results.codes) in
+    subst (Pinned c.loop-code.from (view c.args.counts.now c.args.money.now).results.codes) (sym c.settled_code_from.ensures) (pinned c.loop-code.from (view c.args.counts.now c.args.money.now).results.codes) in
     let lowest : LowestIs c.loop-code.from (view c.args.counts.now c.args.money.now).results.codes c.in-Is.code = subst (Pinned c.loop-code.from (view c.args.counts.now c.args.money.now).results.codes) c.in-Is.is answered in
     absurd (rated-there (view c.args.counts.now c.args.money.now) c.in-Is.code lowest.there (sym c.in_default-rate_of.is ∙ c.rate_of.ensures))
 
@@ -35,7 +35,7 @@ returns-in_default-rate_of c =
 pub put_rate-next-requires : goal.put_rate-next-requires
 put_rate-next-requires c =
     let answered : Pinned c.loop-code.from (view c.args.counts.now c.args.money.now).results.codes c.settled_code_from.result =
-        subst (Pinned c.loop-code.from (view c.args.counts.now c.args.money.now).results.codes) (sym c.settled_code_from.ensures) (pinned c.loop-code.from (view c.args.counts.now c.args.money.now).results.codes) in
+    subst (Pinned c.loop-code.from (view c.args.counts.now c.args.money.now).results.codes) (sym c.settled_code_from.ensures) (pinned c.loop-code.from (view c.args.counts.now c.args.money.now).results.codes) in
     let lowest : LowestIs c.loop-code.from (view c.args.counts.now c.args.money.now).results.codes c.in-Is.code = subst (Pinned c.loop-code.from (view c.args.counts.now c.args.money.now).results.codes) c.in-Is.is answered in
     let wide : (k : ℕ) → length (line_in (view c.args.counts.now c.args.money.now) k) ≤ 96 = λ k. rate-length k ((view c.args.counts.now c.args.money.now).results.settled k) in
     let fits : c.args.at + 6 * 96 ≤ length c.args.room.now = omega (arith, c.requires.1) in
@@ -44,14 +44,14 @@ put_rate-next-requires c =
 pub overflow_add-from : goal.overflow_add-from
 overflow_add-from c =
     let answered : Pinned c.loop-code.from (view c.args.counts.now c.args.money.now).results.codes c.settled_code_from.result =
-        subst (Pinned c.loop-code.from (view c.args.counts.now c.args.money.now).results.codes) (sym c.settled_code_from.ensures) (pinned c.loop-code.from (view c.args.counts.now c.args.money.now).results.codes) in
+    subst (Pinned c.loop-code.from (view c.args.counts.now c.args.money.now).results.codes) (sym c.settled_code_from.ensures) (pinned c.loop-code.from (view c.args.counts.now c.args.money.now).results.codes) in
     let lowest : LowestIs c.loop-code.from (view c.args.counts.now c.args.money.now).results.codes c.in-Is.code = subst (Pinned c.loop-code.from (view c.args.counts.now c.args.money.now).results.codes) c.in-Is.is answered in
     omega (arith, (sound-kept c.requires.0).keys.codes c.in-Is.code lowest.there)
 
 pub loop-code-smaller : goal.loop-code-smaller
 loop-code-smaller c =
     let answered : Pinned c.loop-code.from (view c.args.counts.now c.args.money.now).results.codes c.settled_code_from.result =
-        subst (Pinned c.loop-code.from (view c.args.counts.now c.args.money.now).results.codes) (sym c.settled_code_from.ensures) (pinned c.loop-code.from (view c.args.counts.now c.args.money.now).results.codes) in
+    subst (Pinned c.loop-code.from (view c.args.counts.now c.args.money.now).results.codes) (sym c.settled_code_from.ensures) (pinned c.loop-code.from (view c.args.counts.now c.args.money.now).results.codes) in
     let lowest : LowestIs c.loop-code.from (view c.args.counts.now c.args.money.now).results.codes c.in-Is.code = subst (Pinned c.loop-code.from (view c.args.counts.now c.args.money.now).results.codes) c.in-Is.is answered in
     omega (arith, (sound-kept c.requires.0).keys.codes c.in-Is.code lowest.there, lowest.reached)
 
@@ -59,7 +59,7 @@ loop-code-smaller c =
 pub loop-code-preserved : goal.loop-code-preserved
 loop-code-preserved c =
     let answered : Pinned c.loop-code.from (view c.args.counts.now c.args.money.now).results.codes c.settled_code_from.result =
-        subst (Pinned c.loop-code.from (view c.args.counts.now c.args.money.now).results.codes) (sym c.settled_code_from.ensures) (pinned c.loop-code.from (view c.args.counts.now c.args.money.now).results.codes) in
+    subst (Pinned c.loop-code.from (view c.args.counts.now c.args.money.now).results.codes) (sym c.settled_code_from.ensures) (pinned c.loop-code.from (view c.args.counts.now c.args.money.now).results.codes) in
     let lowest : LowestIs c.loop-code.from (view c.args.counts.now c.args.money.now).results.codes c.in-Is.code = subst (Pinned c.loop-code.from (view c.args.counts.now c.args.money.now).results.codes) c.in-Is.is answered in
     let wide : (k : ℕ) → length (line_in (view c.args.counts.now c.args.money.now) k) ≤ 96 = λ k. rate-length k ((view c.args.counts.now c.args.money.now).results.settled k) in
     let fits : c.args.at + 6 * 96 ≤ length c.args.room.now = omega (arith, c.requires.1) in

@@ -1,19 +1,9 @@
-use mathlib.Core.Path.{sym, ◌∙◌, subst}
 use mathlib.Core.List.{List}
-use Prim.Native.Nat.{ℕ, ◌+◌, ◌*◌, ◌-◌, ◌≤◌, ◌<◌}
-use native.Mathlib.Omega.{arith}
-use borrow.Author.Rules.{rules}
-use lib.ListN.{length}
-use Rattle.decimal.specs.Put.{Put}
+use Prim.Native.Nat.{ℕ, ◌-◌}
 use Rattle.model.specs.Book.{Book}
-use Rattle.rates.specs.declared.Settled.{Settled}
 use Rattle.standing.specs.Standing.{view}
-use Rattle.standing.specs.StandingLaws.{sound-kept}
-use Rattle.reports.specs.ReportLaws.{LowestIs, Pinned, pinned}
 use Rattle.lines.specs.Lines.{rate_line}
-use Rattle.lines.specs.LineLaws.{Walked, walk_begins, walk_ends, walk-room, walk-next}
-use Rattle.lines.specs.KeyLaws.{rated-is, rated-there}
-use Rattle.lines.specs.LengthLaws.{rate-length}
+use Rattle.lines.specs.LineLaws.{Walked}
 use Rattle.lines.proofs.close_lines.put_rates.Given as goal
 
 abbrev pub line_in : Book → ℕ → List ℕ

@@ -1,5 +1,4 @@
 use Rattle.whole.specs.Machine.{told}
-use Rattle.std.specs.Prelude.{length}
 use Rattle.std.proofs.Common.{arith, ◌∙◌, length-append}
 use Rattle.decimal.proofs.PutLaws.{put-more}
 use Rattle.model.specs.Answers.{report_of}

@@ -1,5 +1,4 @@
 use native.Mathlib.Omega.{arith}
-use borrow.Author.Rules.{rules}
 use Rattle.decimal.proofs.PutLaws.{put-more, numeral-length}
 use Rattle.lines.proofs.parts.put_field.Goals as goal
 

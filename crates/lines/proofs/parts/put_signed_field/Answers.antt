@@ -1,5 +1,4 @@
 use native.Mathlib.Omega.{arith}
-use borrow.Author.Rules.{rules}
 use Rattle.whole.specs.Machine.{back}
 use Rattle.decimal.proofs.PutLaws.{put-more, signed-length}
 use Rattle.lines.proofs.parts.put_signed_field.Goals as goal

@@ -1,7 +1,6 @@
 use lib.ListN.{length}
 use mathlib.Core.Path.{◌≡◌}
 use Prim.Native.Nat.{◌-◌, ◌≤◌}
-use borrow.Author.Rules.{rules}
 use Rattle.pages.proofs.close_page.put_contracts.Given as goal
 
 abbrev pub invariant-loop-k : goal.invariant-loop-k

@@ -1,5 +1,4 @@
 use Prim.Native.Nat.{◌-◌, ◌≤◌}
-use borrow.Author.Rules.{rules}
 use Rattle.pages.proofs.dates.date_of.Given as goal
 
 abbrev pub invariant-loop-month : goal.invariant-loop-month

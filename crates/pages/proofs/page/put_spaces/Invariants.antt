@@ -1,6 +1,5 @@
 use lib.ListN.{length}
 use mathlib.Core.Path.{◌≡◌}
-use borrow.Author.Rules.{rules}
 use Rattle.pages.proofs.page.put_spaces.Given as goal
 
 abbrev pub invariant-loop-left : goal.invariant-loop-left

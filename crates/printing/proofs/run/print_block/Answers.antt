@@ -6,17 +6,16 @@ use Rattle.printing.specs.BlockLaws.{printed-none, printed-more}
 use Rattle.printing.proofs.run.print_block.Goals as goal
 
 pub loop-w-init : goal.loop-w-init
-loop-w-init c =
+loop-w-init c = (
+  c.requires.sound,
+  (
+    refl,
     (
-      c.requires.sound,
-      (
-        refl,
-        (
-          record { inside = c.requires.from_in_bounds.0; text = omega arith; on = omega arith; along = refl },
-          printed-none (start c.args.w) refl,
-        ),
-      ),
-    )
+      record { inside = c.requires.from_in_bounds.0; text = omega arith; on = omega arith; along = refl },
+      printed-none (start c.args.w) refl,
+    ),
+  ),
+)
 
 pub is_next-requires : goal.is_next-requires
 is_next-requires c = c.loop-w.invariant.1.1.0.inside
@@ -45,8 +44,7 @@ loop-w-preserved c =
     let fits : Printable (length c.args.bytes.now) c.args.w.ended c.loop-w.p = c.is_next.ensures c.loop-w-test.true in
     let inv = c.loop-w.invariant in
     let reached = inv.1.1.0 in
-    let nearer = c.print_next-p.ensures.nearer in
-    (
+    let nearer = c.print_next-p.ensures.nearer in (
       c.print_next-p.ensures.sound_2,
       (
         omega (arith, inv.1.0, c.print_next-p.auto.room),

@@ -12,8 +12,8 @@ pub overflow_sub-place : goal.overflow_sub-place
 overflow_sub-place c =
     let small : Small c.args.bytes.now = λ i. (c.shared_slice_known-1.given i).fits in
     let walks : Walks c.args.bytes.now c.args.p.at c.args.room.now c.args.p.used c.print_record-printed.result c.print_record-printed.new.counts
-        c.print_record-printed.new.money c.print_record-printed.new.room =
-        printed-walks small c.requires.at_in_bounds.1 c.requires.sound c.print_record-printed.ensures in
+    c.print_record-printed.new.money c.print_record-printed.new.room =
+    printed-walks small c.requires.at_in_bounds.1 c.requires.sound c.print_record-printed.ensures in
     let on : Further (length c.args.bytes.now) c.args.p.at c.args.p.used (Next c.in-Next.next c.in-Next.after) = rw c.in-Next.is at walks.further in
     omega (arith, on.0)
 
@@ -21,8 +21,8 @@ pub overflow_add-place : goal.overflow_add-place
 overflow_add-place c =
     let small : Small c.args.bytes.now = λ i. (c.shared_slice_known-1.given i).fits in
     let walks : Walks c.args.bytes.now c.args.p.at c.args.room.now c.args.p.used c.print_record-printed.result c.print_record-printed.new.counts
-        c.print_record-printed.new.money c.print_record-printed.new.room =
-        printed-walks small c.requires.at_in_bounds.1 c.requires.sound c.print_record-printed.ensures in
+    c.print_record-printed.new.money c.print_record-printed.new.room =
+    printed-walks small c.requires.at_in_bounds.1 c.requires.sound c.print_record-printed.ensures in
     let on : Further (length c.args.bytes.now) c.args.p.at c.args.p.used (Next c.in-Next.next c.in-Next.after) = rw c.in-Next.is at walks.further in
     omega (arith, on.0, on.1.0, c.requires.at_bound)
 
@@ -30,16 +30,16 @@ pub returns-in-Bad-clause-sound_2 : goal.returns-in-Bad-clause-sound_2
 returns-in-Bad-clause-sound_2 c =
     let small : Small c.args.bytes.now = λ i. (c.shared_slice_known-1.given i).fits in
     let walks : Walks c.args.bytes.now c.args.p.at c.args.room.now c.args.p.used c.print_record-printed.result c.print_record-printed.new.counts
-        c.print_record-printed.new.money c.print_record-printed.new.room =
-        printed-walks small c.requires.at_in_bounds.1 c.requires.sound c.print_record-printed.ensures in
+    c.print_record-printed.new.money c.print_record-printed.new.room =
+    printed-walks small c.requires.at_in_bounds.1 c.requires.sound c.print_record-printed.ensures in
     walks.sound
 
 pub returns-in-Bad-clause-nearer : goal.returns-in-Bad-clause-nearer
 returns-in-Bad-clause-nearer c =
     let small : Small c.args.bytes.now = λ i. (c.shared_slice_known-1.given i).fits in
     let walks : Walks c.args.bytes.now c.args.p.at c.args.room.now c.args.p.used c.print_record-printed.result c.print_record-printed.new.counts
-        c.print_record-printed.new.money c.print_record-printed.new.room =
-        printed-walks small c.requires.at_in_bounds.1 c.requires.sound c.print_record-printed.ensures in
+    c.print_record-printed.new.money c.print_record-printed.new.room =
+    printed-walks small c.requires.at_in_bounds.1 c.requires.sound c.print_record-printed.ensures in
     let on : Further (length c.args.bytes.now) c.args.p.at c.args.p.used (Bad c.in-Bad.after) = rw c.in-Bad.is at walks.further in
     record { inside = omega arith; less = omega arith; text = on; on = omega arith; along = refl }
 
@@ -52,16 +52,16 @@ pub returns-in-Next-clause-sound_2 : goal.returns-in-Next-clause-sound_2
 returns-in-Next-clause-sound_2 c =
     let small : Small c.args.bytes.now = λ i. (c.shared_slice_known-1.given i).fits in
     let walks : Walks c.args.bytes.now c.args.p.at c.args.room.now c.args.p.used c.print_record-printed.result c.print_record-printed.new.counts
-        c.print_record-printed.new.money c.print_record-printed.new.room =
-        printed-walks small c.requires.at_in_bounds.1 c.requires.sound c.print_record-printed.ensures in
+    c.print_record-printed.new.money c.print_record-printed.new.room =
+    printed-walks small c.requires.at_in_bounds.1 c.requires.sound c.print_record-printed.ensures in
     walks.sound
 
 pub returns-in-Next-clause-nearer : goal.returns-in-Next-clause-nearer
 returns-in-Next-clause-nearer c =
     let small : Small c.args.bytes.now = λ i. (c.shared_slice_known-1.given i).fits in
     let walks : Walks c.args.bytes.now c.args.p.at c.args.room.now c.args.p.used c.print_record-printed.result c.print_record-printed.new.counts
-        c.print_record-printed.new.money c.print_record-printed.new.room =
-        printed-walks small c.requires.at_in_bounds.1 c.requires.sound c.print_record-printed.ensures in
+    c.print_record-printed.new.money c.print_record-printed.new.room =
+    printed-walks small c.requires.at_in_bounds.1 c.requires.sound c.print_record-printed.ensures in
     let on : Further (length c.args.bytes.now) c.args.p.at c.args.p.used (Next c.in-Next.next c.in-Next.after) = rw c.in-Next.is at walks.further in
     record {
       inside = on.1.0;

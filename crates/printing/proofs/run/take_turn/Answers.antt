@@ -42,11 +42,11 @@ print_block-p-requires-clause-from_bound g c =
 pub slice_bounds-write_all-end-2 : goal.slice_bounds-write_all-end-2
 slice_bounds-write_all-end-2 g c = simp length-take (omega arith)
 
-pub returns-then-not-is_ok-clause-sound_2 : goal.returns-then-not-is_ok-clause-sound_2
-returns-then-not-is_ok-clause-sound_2 g c = c.print_block-p.ensures.sound_2
+pub returns-then-is_err-clause-sound_2 : goal.returns-then-is_err-clause-sound_2
+returns-then-is_err-clause-sound_2 g c = c.print_block-p.ensures.sound_2
 
-pub returns-then-not-is_ok-clause-turn_taken : goal.returns-then-not-is_ok-clause-turn_taken
-returns-then-not-is_ok-clause-turn_taken g c = turn-taken c.refill-w.ensures c.print_block-p.ensures.printed_up_to (Ended false) tt
+pub returns-then-is_err-clause-turn_taken : goal.returns-then-is_err-clause-turn_taken
+returns-then-is_err-clause-turn_taken g c = turn-taken c.refill-w.ensures c.print_block-p.ensures.printed_up_to (Ended false) tt
 
 pub returns-clause-sound_2 : goal.returns-clause-sound_2
 returns-clause-sound_2 g c = c.print_block-p.ensures.sound_2
@@ -55,7 +55,7 @@ pub returns-clause-goes_on : goal.returns-clause-goes_on
 returns-clause-goes_on g c =
     let refilled = c.refill-w.ensures in
     rw refilled.place at
-        (goes_on c.refill-w.result c.turned.result refilled.within (simp length-take (omega arith)) c.print_block-p.ensures.reaches c.turned.ensures)
+    (goes_on c.refill-w.result c.turned.result refilled.within (simp length-take (omega arith)) c.print_block-p.ensures.reaches c.turned.ensures)
 
 pub returns-clause-turn_taken : goal.returns-clause-turn_taken
 returns-clause-turn_taken g c = turned_taken c.refill-w.ensures c.print_block-p.ensures.printed_up_to c.turned.result c.turned.ensures
