@@ -37,19 +37,19 @@ RECORDS_IN_A_PART = 7
 
 # What the prover must unfold to compute a call. tried.txt imports it.
 UNFOLDED = '''
-    new has placeOf all zipped those sumZ larger smaller hundredthUp nearestSize withSign rising risingAfter isWeekend
-    isException isWorking firstWorking lastWorking isCode monthOf monthLength firstDay thirdWednesday settlementDay
-    lastTradingDay folded unfolded ceilings kinds allWithin day.inLastHour meanOf meanWith total tallyFrom latestOf inDay
-    inHour inSide ruleAt halfway settledFrom positions.total variationAt variation allCarried newHoldings withLimits
-    withSpecial totalsOf isOver atClose overLimit requirement withCore funds.newFunds funds.billed funds.paidUp
-    funds.inDefault funds.settled funds.paidIn funds.paidOut funds.released closed refreshed callOf after firstOf refusal
+    new has place_of all zipped those sum_z larger smaller hundredth_up nearest_size with_sign rising rising_after is_weekend
+    is_exception is_working first_working last_working is_code month_of month_length first_day third_wednesday settlement_day
+    last_trading_day folded unfolded ceilings kinds all_within day.in_last_hour mean_of mean_with total tally_from latest_of in_day
+    in_hour in_side rule_at halfway settled_from positions.total variation_at variation all_carried new_holdings with_limits
+    with_special totals_of is_over at_close over_limit requirement with_core funds.new_funds funds.billed funds.paid_up
+    funds.in_default funds.settled funds.paid_in funds.paid_out funds.released closed refreshed call_of after first_of refusal
     answer look walk
 '''
 # The same for whether a calendar is accepted, and for a listing: they are computed on their own.
-UNFOLDED_FOR_START = 'isWorking isException isWeekend firstWorking noLongBreak'
+UNFOLDED_FOR_START = 'isWorking is_exception is_weekend first_working noLongBreak'
 UNFOLDED_FOR_LISTING = '''
-    isWorking isException isWeekend firstWorking codeOf monthLength firstDay thirdWednesday settlementDay considered
-    chosenAfter
+    is_working is_exception is_weekend first_working code_of month_length first_day third_wednesday settlement_day considered
+    chosen_after
 '''
 RULES = {'1': 'LastHour', '2': 'LastFive', '3': 'Quotes', '4': 'Previous', '5': 'Final'}
 # Where the book stands after a call of these kinds.
@@ -76,7 +76,7 @@ def column(terms):
 
 
 def mean(weighted):
-    return f'(aMean {whole(sum(weight * rate for weight, rate in weighted))} {sum(weight for weight, _ in weighted)})'
+    return f'(a_mean {whole(sum(weight * rate for weight, rate in weighted))} {sum(weight for weight, _ in weighted)})'
 
 
 # A tally has the last five trades, with weights of 0 where there are none.
@@ -163,7 +163,7 @@ class State:
   codes = {listed(days)};
   terms = {listed(applied('aTerms', whole(book.listed.previous[code]), book.margins[code]) for code in days)};
   tallies = {column(map(tally, days.values()))};
-  settledCodes = {listed(code for code, *_ in results)};
+  settled_codes = {listed(code for code, *_ in results)};
   settled = {listed(applied('aSettled', whole(int(rate)), RULES[rule], used) for _, rate, rule, used in results)};
   members = {listed(book.accounts)};
   held = {column(map(held, accounts))};
@@ -219,7 +219,7 @@ class Spec:
             return None
         self.end_part()
         name = f'accepted-{len(self.ends)}'
-        self.prove(name, f'accepted (isWorking {listed(exceptions)}) ≡ {str(not refusal).lower()}', UNFOLDED_FOR_START, 'refl')
+        self.prove(name, f'accepted (is_working {listed(exceptions)}) ≡ {str(not refusal).lower()}', UNFOLDED_FOR_START, 'refl')
         return f'rw {name}'
 
     # So is the listing of an open. It is computed from the months up to the last that is listed.
@@ -231,7 +231,7 @@ class Spec:
         known = all(is_in(calendar.settlement[month]) for month in months)
         self.end_part()
         name, table = f'listing-{len(self.ends)}', f'table-{len(self.ends) - 1}'
-        codes, working = listed(map(code_of, months)), f'(isWorking {self.state.exceptions()})'
+        codes, working = listed(map(code_of, months)), f'(is_working {self.state.exceptions()})'
         last = 12 * (months[-1][0] - FIRST.year) + months[-1][1]
         found = f'record {{ known = true; codes = {codes} }}' if known else 'unknown'
         computed = f'sym (computed-listing {working} {day} {last} (omega arith) refl)'
@@ -269,14 +269,12 @@ class Spec:
 # A copy of the repository, with what is proved already.
 def prepare(scratch):
     shutil.copy(ROOT / 'crates.txt', scratch)
-    for folder in ['crates', 'target']:
-        if (ROOT / folder).exists():
-            shutil.copytree(ROOT / folder, scratch / folder)
+    shutil.copytree(ROOT / 'crates', scratch / 'crates')
 
 
 # The first error that the prover finds, or none.
 def error_in(scratch):
-    run = subprocess.run(['rt', 'dev', 'tables'], cwd=scratch, stdout=subprocess.PIPE, stderr=subprocess.STDOUT, text=True)
+    run = subprocess.run(['rt', 'check'], cwd=scratch / 'crates/tables', stdout=subprocess.PIPE, stderr=subprocess.STDOUT, text=True)
     lines = run.stdout.splitlines()
     if run.returncode not in (0, 1):
         sys.exit(f'rt failed: {run.stdout[-300:]}')

@@ -1,6 +1,6 @@
 """One member's default and the others (request L10 of document 02), as a day program shows it on event files.
 
-    python3 reference/mornings.py FOLDER [PROGRAM]    on the event files in FOLDER; PROGRAM is the day program, target/bin/day
+    python3 reference/mornings.py FOLDER [PROGRAM]    on the event files in FOLDER; PROGRAM is the day program, crates/day/out/day
 
 Of each file some accepted settlements are chosen, by the file's name, and of each settlement two accounts. For each account the records up to the settlement are
 taken three times: as they are, with the account's cash paid out just before it, and with much paid in. Behind the settlement every account's money is asked

@@ -1,6 +1,6 @@
 """A ticket and its split (request L8 of document 02), as a day program shows them on event files.
 
-    python3 reference/tickets.py FOLDER [PROGRAM]    on the event files in FOLDER; PROGRAM is the day program, target/bin/day
+    python3 reference/tickets.py FOLDER [PROGRAM]    on the event files in FOLDER; PROGRAM is the day program, crates/day/out/day
 
 Of each file some accepted trades are chosen, by the file's name. Each is called whole, in two parts at the same rate, and with its sides exchanged, and the file goes on
 to its next close. So are tickets that turn an account which is above its limit from one side of zero to the other, on event files made for that.

@@ -1,7 +1,7 @@
 """What the scripts that check event files share: the files of a folder, the comparison of lines, the runs of a day program, and the command lines.
 
     python3 reference/NAME.py vectors FOLDER       checks the event files in FOLDER and their expected outputs
-    python3 reference/NAME.py FOLDER [PROGRAM]     tries a day program, target/bin/day, on the event files in FOLDER
+    python3 reference/NAME.py FOLDER [PROGRAM]     tries a day program, crates/day/out/day, on the event files in FOLDER
 """
 import subprocess
 import sys
@@ -50,7 +50,7 @@ def some(choice, items, most):
 def run_trials(doc, faults_in, needed):
     if len(sys.argv) not in (2, 3):
         sys.exit(doc)
-    folder, program, *_ = [*sys.argv[1:], 'target/bin/day']
+    folder, program, *_ = [*sys.argv[1:], 'crates/day/out/day']
     counts = Counter({'faults': 0})
     for events in sorted(Path(folder).glob('*.events')):
         for fault in faults_in(program, events.stem, events.read_bytes(), counts):
