@@ -1,5 +1,5 @@
 -- What a close books, requires and grants, and what the settlement after it then moves.
-use Rattle.std.specs.Prelude.{◌≡◌, true, false, ℕ, ◌+◌, ℤ, ◌+ℤ◌, ◌≤ℤ◌, ◌<ℤ◌}
+use Rattle.std.specs.Prelude.{◌≡◌, true, false, ℕ, ℤ, ◌+ℤ◌, ◌≤ℤ◌, ◌<ℤ◌}
 use Rattle.std.proofs.Math.Path.{refl, ap}
 use Rattle.std.proofs.Common.{◌∙◌, subst}
 use Rattle.std.proofs.Math.Dec.{T}

@@ -1,4 +1,6 @@
 // An account: what it holds and what it has, joined where document 01 joins them (document 01, 'Trade', 'Close' and 'Refresh').
+#![tactic(auto)]
+
 ghost use Rattle.std.specs.Prelude.{◌≡◌};
 ghost use Rattle.funds.specs.Bounds.{days_most};
 ghost use Rattle.holdings.specs.Bounds.{Granted, GoodReference};

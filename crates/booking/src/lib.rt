@@ -1,4 +1,6 @@
 // What a close books on the positions of an account, and what it leaves of them (document 01, 'Close').
+#![tactic(auto)]
+
 ghost use Rattle.std.specs.Prelude.{◌≡◌};
 ghost use Rattle.positions.specs.Bounds.{Priced, PricedAll, Kept, Modest};
 ghost use Rattle.booking.specs.Variation.{variation_at, variation};

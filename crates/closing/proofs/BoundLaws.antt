@@ -12,7 +12,6 @@ use Rattle.booking.specs.Carried.{all_carried}
 use Rattle.positions.specs.Bounds.{Kept}
 use Rattle.totals.proofs.BoundLaws.{total-amount}
 use Rattle.booking.specs.BoundLaws.{carried-kept, variation-within}
-use Rattle.holdings.specs.Holdings.{basis}
 use Rattle.holdings.specs.Bounds.{GoodReference, Sound}
 use Rattle.holdings.specs.declared.Holdings.{Holdings}
 use Rattle.holdings.proofs.BoundLaws.{basis-amount}

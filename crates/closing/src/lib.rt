@@ -1,5 +1,7 @@
 // What a close makes of what an account holds, what it then requires, and the core that follows (document 01, 'Close' and
 // 'Refresh').
+#![tactic(auto)]
+
 ghost use Rattle.std.specs.Prelude.{◌≡◌, ◌≤◌};
 ghost use Rattle.whole.specs.Amounts.{Amount};
 ghost use Rattle.holdings.specs.Bounds.{Granted, GoodReference, Sound};

@@ -1,6 +1,6 @@
 -- The sizes of an account's money as a function of the day, so that every sum fits 64 bits over the calendar's life. `days` is
 -- the number of days that may have been closed: at most the days of the calendar, 3,653.
-use Rattle.std.specs.Prelude.{◌≡◌, ℕ, ◌+◌, ◌*◌, ℤ, pos, ◌+ℤ◌, ◌-ℤ◌, ◌≤ℤ◌}
+use Rattle.std.specs.Prelude.{◌≡◌, ℕ, ◌+◌, ◌*◌, pos, ◌+ℤ◌, ◌-ℤ◌, ◌≤ℤ◌}
 use Rattle.whole.specs.Within.{Within}
 use Rattle.whole.specs.Amounts.{Amount}
 use Rattle.positions.specs.Bounds.{day_most}

@@ -1,5 +1,7 @@
 // What an account has: cash, margin, what it is due, what is required of it, and whether it is in default. Bills, settlement,
 // payments and releases are over this part of an account alone (document 01, 'Close', 'Settle' and 'Release').
+#![tactic(auto)]
+
 ghost use Rattle.std.specs.Prelude.{◌≡◌};
 ghost use Rattle.whole.specs.Within.{Within};
 ghost use Rattle.whole.specs.Amounts.{Amount};

@@ -1,5 +1,7 @@
 // What an account holds: its positions, its limits, its core and special margin, and what the last close found. Trades and
 // limits are over this part of an account alone (document 01, 'Trade').
+#![tactic(auto)]
+
 ghost use Rattle.std.specs.Prelude.{◌≡◌, ◌<◌};
 ghost use Rattle.whole.specs.Within.{Within};
 ghost use Rattle.positions.specs.Bounds.{Margins, Nets};

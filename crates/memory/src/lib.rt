@@ -1,5 +1,7 @@
 // The book's memory: two arrays that the caller lends, counts of numbers, codes, flags and tallies, and money, signed. Rows are
 // taken out of it as structs by value, and put back.
+#![tactic(auto)]
+
 mod account_rows;
 mod cells;
 mod contract_rows;

@@ -18,7 +18,7 @@ use Rattle.rates.specs.declared.Settled.{Settled}
 use Rattle.positions.specs.Deals.{Deal, lots_of, bought, sold, flat, overnight}
 use Rattle.booking.specs.Carried.{carried, all_carried}
 use Rattle.totals.specs.Totals.{asked, total}
-use Rattle.booking.specs.Variation.{earned, variation_of, variation_at, variation}
+use Rattle.booking.specs.Variation.{earned, variation_of, variation_at}
 use Rattle.booking.specs.VariationLaws.{variation-kept}
 use Rattle.closing.specs.DayEnd.{at_close, with_core}
 use Rattle.accounts.specs.Accounts.{closed}

@@ -9,13 +9,10 @@ use Rattle.whole.specs.Sums.{sum_z}
 use Rattle.whole.specs.Sizes.{sizes, sum-sizes}
 use Rattle.whole.specs.Over.{sum_over}
 use Rattle.whole.specs.Amounts.{Amount, amount-pos, amount-+, amount-widen}
-use Rattle.tallies.specs.Bounds as tallies
-use Rattle.positions.specs.Bounds.{costs}
 use Rattle.totals.specs.Totals as positions
 use Rattle.positions.specs.declared.Position.{Position}
 use Rattle.funds.specs.Funds.{paid_up, in_default, settled}
 use Rattle.funds.specs.FundsLaws.{settled-keeps}
-use Rattle.funds.specs.Bounds as funds
 use Rattle.funds.specs.declared.Funds.{Funds}
 use Rattle.model.specs.Book.{Book, Point, unstarted, unopened, unsettled, settled_today, ended}
 use Rattle.model.specs.Effects.{paid_to}

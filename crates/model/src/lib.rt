@@ -1,1 +1,3 @@
+#![tactic(auto)]
+
 // The model of the book: its definitions and theorems stand under specs/.

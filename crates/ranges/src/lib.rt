@@ -1,4 +1,6 @@
 // What the fields of a record may hold: one table of ranges, read by the range check.
+#![tactic(auto)]
+
 ghost use Rattle.std.specs.Prelude.{◌≡◌, ◌<◌};
 ghost use Rattle.lists.specs.Passing.{all};
 ghost use Rattle.fields.specs.Fields.{day, fields_of};

@@ -1,6 +1,6 @@
 -- Document 01, 'Settlement rate': which of the five rules gives a contract's rate, at which rate, from how many trades or
 -- counted quotes.
-use Rattle.std.specs.Prelude.{Bool, ◌&&◌, cond, List, [], ◌++◌, map, ℕ, ◌+◌, ◌*◌, leb, ℤ, pos, ◌+ℤ◌, ◌*ℤ◌, length}
+use Rattle.std.specs.Prelude.{Bool, ◌&&◌, cond, List, [], ◌++◌, map, ℕ, ◌*◌, leb, ℤ, pos, ◌+ℤ◌, ◌*ℤ◌, length}
 use Rattle.whole.specs.Round.{rounded}
 use Rattle.tallies.specs.Day.{Trade, Quote, late_trades, last_five, bids_of, offers_of}
 use Rattle.tallies.specs.Means.{mean_of, by_lots, once}

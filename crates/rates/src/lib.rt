@@ -1,5 +1,7 @@
 // The settlement rate of one contract on one day, the rule that gave it, and how many trades or counted quotes it used
 // (document 01, 'Settlement rate').
+#![tactic(auto)]
+
 ghost use Rattle.std.specs.Prelude.{◌≡◌, ◌<◌};
 ghost use Rattle.tallies.specs.Bounds.{Fair, Sound};
 ghost use Rattle.rates.specs.Rules.{number_of, halfway, nearest};

@@ -1,5 +1,7 @@
 // A reader that holds the file's bytes and its place together. Each function over it is thin and takes it apart: the
 // work is done by functions on plain bytes, with a number for the place.
+#![tactic(auto)]
+
 ghost use Rattle.std.specs.Prelude.{◌≡◌};
 ghost use Rattle.records.specs.Reading.{reading_at};
 ghost use Rattle.reader.specs.Place.{place_after, moved_on, rest_from};

@@ -12,7 +12,7 @@ use Rattle.numbers.specs.SevenLaws.{groups-most}
 use Rattle.numbers.specs.Several.{some, write_of, many}
 use Rattle.encoding.specs.Sizes.{size-most}
 use Rattle.encoding.specs.Put.{put, put-append}
-use Rattle.fields.specs.Fields.{kinds, known, count, announced, is_zero, shaped}
+use Rattle.fields.specs.Fields.{kinds, count, announced, is_zero, shaped}
 use Rattle.fields.specs.FieldLaws.{is_known, counts-most, shape-tells}
 use Rattle.records.specs.declared.Written.TheVariants.{Done, Malformed, NoRoom}
 use Rattle.records.specs.Records.{Entry, entry, writing, reading, parsed}

@@ -1,6 +1,8 @@
 // Records as bytes: a record at a place of a file, the record at the start of what is left, and a record put into lent
 // room. A record is its kind and its fields. The exceptions of a start stay in the bytes: whoever needs them reads them
 // from the place that the answer names, by `decoding::read_numbers`.
+#![tactic(auto)]
+
 ghost use Rattle.std.specs.Prelude.{◌≡◌, ◌≤◌, length, drop};
 ghost use Rattle.numbers.specs.Several.{many};
 ghost use Rattle.records.specs.Reading.{malformed_at, reading_at};

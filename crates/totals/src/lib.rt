@@ -1,4 +1,6 @@
 // What the positions of an account ask in margin (document 01, 'Trade').
+#![tactic(auto)]
+
 ghost use Rattle.std.specs.Prelude.{◌≡◌, ◌≤◌};
 ghost use Rattle.whole.specs.Within.{Within};
 ghost use Rattle.positions.specs.Bounds.{Margins, Nets};

@@ -1,6 +1,5 @@
 use mathlib.Core.Path.{◌≡◌, sym, ap, ap₂, subst, ◌∙◌}
 use native.Mathlib.Omega.{arith}
-use borrow.Author.Rules.{rules}
 use mir.Syntax.{w64}
 use mir.Val.{to_z, of_z}
 use Rattle.whole.specs.Machine.{arg, told, passed}
@@ -43,7 +42,7 @@ pub returns : goal.returns
 unfolding closed
 returns c =
     let bill : c.billed-funds.result ≡ bill_of c.args.d (at_close c.args.d c.args.a.holdings) c.args.a.funds =
-        c.billed-funds.ensures
+    c.billed-funds.ensures
     ∙ ap₂ (billed c.args.a.funds) (arg (left c.before.before.before.before.before).variation tt).eq (asked c.before.before.before.before)
     ∙ ap (λ h. bill_of c.args.d h c.args.a.funds) c.at_close-h.ensures in
     let closing = c.before.before.before.before.before in

@@ -1,4 +1,3 @@
-use borrow.Author.Rules.{rules}
 use Rattle.accounts.proofs.new_account.Goals as goal
 
 pub returns : goal.returns

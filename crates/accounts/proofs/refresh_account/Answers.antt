@@ -1,5 +1,4 @@
 use mathlib.Core.Path.{sym, ap, ◌∙◌}
-use borrow.Author.Rules.{rules}
 use Rattle.accounts.specs.Accounts.{with_holdings}
 use Rattle.accounts.specs.CloseLaws.{refreshed-default, refreshed-clear}
 use Rattle.accounts.proofs.refresh_account.Goals as goal

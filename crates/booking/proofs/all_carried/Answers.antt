@@ -1,7 +1,5 @@
 use mathlib.Core.Path.{◌≡◌, refl, sym, ap, ap₂, ◌∙◌}
-use Prim.Native.Nat.{◌-◌, ◌≤◌}
 use native.Mathlib.Omega.{arith}
-use borrow.Author.Rules.{rules}
 use lib.ListN.{set, length}
 use Rattle.lists.specs.Zipped.{zipped, zipped-length, zipped-at}
 use Rattle.lists.specs.Parts.{onto, onto-step, onto-all}

@@ -1,13 +1,8 @@
-use mathlib.Core.Path.{◌≡◌, refl, sym, ap, ap₂, ◌∙◌}
+use mathlib.Core.Path.{◌≡◌}
 use Prim.Native.Nat.{◌-◌, ◌≤◌}
-use native.Mathlib.Omega.{arith}
-use borrow.Author.Rules.{rules}
-use lib.ListN.{set, length}
-use Rattle.lists.specs.Zipped.{zipped, zipped-length, zipped-at}
-use Rattle.lists.specs.Parts.{onto, onto-step, onto-all}
-use Rattle.positions.specs.Deals.{flat}
-use Rattle.positions.specs.Bounds.{no_mark}
-use Rattle.booking.specs.Carried.{carried, all_carried}
+use Rattle.lists.specs.Zipped.{zipped}
+use Rattle.lists.specs.Parts.{onto}
+use Rattle.booking.specs.Carried.{carried}
 use Rattle.booking.proofs.all_carried.Given as goal
 
 -- the rows that the loop has passed are carried over, the others as they were

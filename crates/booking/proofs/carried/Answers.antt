@@ -1,5 +1,4 @@
 use mathlib.Core.Path.{ap, ◌∙◌}
-use borrow.Author.Rules.{rules}
 use Rattle.whole.specs.Machine.{told}
 use Rattle.positions.specs.Deals.{overnight}
 use Rattle.booking.proofs.carried.Goals as goal

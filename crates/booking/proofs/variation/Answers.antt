@@ -1,9 +1,7 @@
-use mathlib.Core.Path.{◌≡◌, sym, ◌∙◌}
-use Prim.Native.Nat.{◌+◌, ◌-◌, ◌≤◌}
+use mathlib.Core.Path.{sym, ◌∙◌}
+use Prim.Native.Nat.{◌+◌}
 use native.Mathlib.Omega.{arith}
 use lib.ListN.{take}
-use mir.Syntax.{w64}
-use mir.Val.{to_z}
 use Rattle.lists.specs.Zipped.{zipped}
 use Rattle.whole.specs.Machine.{Got, got, kept, fits}
 use Rattle.whole.specs.Sums.{sum_z, sum-none}

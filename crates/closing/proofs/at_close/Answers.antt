@@ -1,6 +1,5 @@
 use mathlib.Core.Path.{◌∙◌}
 use native.Mathlib.Omega.{arith}
-use borrow.Author.Rules.{rules}
 use Rattle.whole.specs.Machine.{told}
 use Rattle.positions.specs.BoundLaws.{nets-wider}
 use Rattle.booking.specs.BoundLaws.{carried-kept}

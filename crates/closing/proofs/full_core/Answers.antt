@@ -1,5 +1,4 @@
 use mathlib.Core.Path.{ap₂, ◌∙◌}
-use borrow.Author.Rules.{rules}
 use Rattle.whole.specs.Machine.{told}
 use Rattle.whole.specs.Larger.{larger}
 use Rattle.closing.proofs.full_core.Goals as goal

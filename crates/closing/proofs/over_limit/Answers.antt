@@ -1,5 +1,4 @@
 use mathlib.Core.Path.{◌≡◌, ap, ◌∙◌}
-use borrow.Author.Rules.{rules}
 use lib.IntN.{pos, ◌-ℤ◌, ◌*ℤ◌}
 use Rattle.whole.specs.Within.{lit, wider}
 use Rattle.whole.specs.Machine.{Got, got, arg, told, held, kept, fits, unsigned, sub, mul}

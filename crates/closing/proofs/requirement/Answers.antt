@@ -1,5 +1,4 @@
 use mathlib.Core.Path.{◌≡◌, sym, ap₂, subst, ◌∙◌}
-use borrow.Author.Rules.{rules}
 use lib.IntN.{ℤ, ◌+ℤ◌}
 use mir.Syntax.{w64}
 use mir.Val.{to_z, of_z}
@@ -23,11 +22,10 @@ least : (c : After-basis-least) → to_z w64 (of_z w64 c.basis-least.result) ≡
 least c = told c.basis-least.result c.basis-least.type_inv ∙ c.basis-least.ensures
 
 pub over_limit-over-requires : goal.over_limit-over-requires
-over_limit-over-requires c =
-    (
-      subst (Amount 12000000000000) (sym (arg (amount-within c.requires.0.dayend) tt).eq) c.requires.0.dayend,
-      (subst (Amount 100000000000000) (sym (least c.before.before)) (basis-amount c.requires.0.limits c.requires.1.0), c.requires.1.1),
-    )
+over_limit-over-requires c = (
+  subst (Amount 12000000000000) (sym (arg (amount-within c.requires.0.dayend) tt).eq) c.requires.0.dayend,
+  (subst (Amount 100000000000000) (sym (least c.before.before)) (basis-amount c.requires.0.limits c.requires.1.0), c.requires.1.1),
+)
 
 over : (c : After-over_limit-over) → to_z w64 (of_z w64 c.over_limit-over.result) ≡ over_at c.before.before.before.before.before
 over c =
@@ -48,11 +46,11 @@ overflow_add-result c = fits (two c).reads tt
 pub overflow_add-result-2 : goal.overflow_add-result-2
 overflow_add-result-2 c =
     let over : to_z w64 (of_z w64 c.over_limit-over.result) ≡ over_at c.before.before.before.before.before.before =
-        told c.over_limit-over.result c.over_limit-over.type_inv
+    told c.over_limit-over.result c.over_limit-over.type_inv
     ∙ c.over_limit-over.ensures
     ∙ ap₂ (λ t b. over_limit t b c.args.multiplier) (arg (amount-within c.requires.0.dayend) tt).eq (least c.before.before.before.before) in
     let two : Got 220000000000000 (basis_at c.before.before.before.before.before.before +ℤ over_at c.before.before.before.before.before.before) =
-        let b = basis-amount c.requires.0.limits c.requires.1.0 in
+    let b = basis-amount c.requires.0.limits c.requires.1.0 in
     let o = over-amount c.requires.0.dayend b c.requires.1.1 in
     got (add (held (least c.before.before.before.before) (amount-within b)) (held over (amount-within o))) in
     fits (add (kept two.reads tt) (arg (amount-within c.requires.0.special) tt)) tt
@@ -61,11 +59,11 @@ pub returns : goal.returns
 unfolding requirement
 returns c =
     let over : to_z w64 (of_z w64 c.over_limit-over.result) ≡ over_at c.before.before.before.before.before.before =
-        told c.over_limit-over.result c.over_limit-over.type_inv
+    told c.over_limit-over.result c.over_limit-over.type_inv
     ∙ c.over_limit-over.ensures
     ∙ ap₂ (λ t b. over_limit t b c.args.multiplier) (arg (amount-within c.requires.0.dayend) tt).eq (least c.before.before.before.before) in
     let two : Got 220000000000000 (basis_at c.before.before.before.before.before.before +ℤ over_at c.before.before.before.before.before.before) =
-        let b = basis-amount c.requires.0.limits c.requires.1.0 in
+    let b = basis-amount c.requires.0.limits c.requires.1.0 in
     let o = over-amount c.requires.0.dayend b c.requires.1.1 in
     got (add (held (least c.before.before.before.before) (amount-within b)) (held over (amount-within o))) in
     (kept (add (kept two.reads tt) (arg (amount-within c.requires.0.special) tt)) tt).eq

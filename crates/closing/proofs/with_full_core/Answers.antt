@@ -1,5 +1,4 @@
 use mathlib.Core.Path.{ap, ◌∙◌}
-use borrow.Author.Rules.{rules}
 use Rattle.whole.specs.Machine.{told}
 use Rattle.closing.specs.DayEnd.{with_core}
 use Rattle.closing.proofs.with_full_core.Goals as goal

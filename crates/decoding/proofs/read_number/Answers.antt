@@ -2,10 +2,9 @@
 use mathlib.Core.Path.{◌≡◌, sym, ap, ◌∙◌}
 use Prim.Native.Nat.{◌+◌, ◌*◌, ◌-◌, ◌^◌, ◌≤◌, ◌<◌}
 use native.Mathlib.Omega.{arith}
-use lib.ListN.{length, get_or, drop}
-use Rattle.numbers.specs.Seven.{unbounded, decode}
+use lib.ListN.{get_or}
 use Rattle.decoding.specs.Place.{placed}
-use Rattle.decoding.specs.Groups.{onward, at-end, at_one, at_more, step_end, step-more, step-over, step-last, scale-top, scale-is, scale-short, scale-more, sum-under, sum_below}
+use Rattle.decoding.specs.Groups.{at-end, at_one, at_more, step_end, step-more, step-over, step-last, scale-top, scale-is, scale-short, scale-more, sum-under, sum_below}
 use Rattle.decoding.proofs.read_number.Goals as goal
 use Rattle.decoding.proofs.read_number.Goals.{Else-i-tenth}
 

@@ -1,10 +1,8 @@
-use mathlib.Core.Path.{◌≡◌, sym, ap, ◌∙◌}
-use Prim.Native.Nat.{◌+◌, ◌*◌, ◌-◌, ◌^◌, ◌≤◌, ◌<◌}
-use native.Mathlib.Omega.{arith}
-use lib.ListN.{length, get_or, drop}
+use mathlib.Core.Path.{◌≡◌}
+use Prim.Native.Nat.{◌+◌, ◌-◌, ◌^◌, ◌≤◌, ◌<◌}
+use lib.ListN.{length, drop}
 use Rattle.numbers.specs.Seven.{unbounded, decode}
-use Rattle.decoding.specs.Place.{placed}
-use Rattle.decoding.specs.Groups.{onward, at-end, at_one, at_more, step_end, step-more, step-over, step-last, scale-top, scale-is, scale-short, scale-more, sum-under, sum_below}
+use Rattle.decoding.specs.Groups.{onward}
 use Rattle.decoding.proofs.read_number.Given as goal
 
 abbrev pub invariant-loop-i : goal.invariant-loop-i

@@ -1,10 +1,9 @@
 -- The room so far holds the numbers passed, and all of them are there: they were counted before.
 use mathlib.Core.Path.{◌≡◌, refl, sym, ap, ◌∙◌}
-use mathlib.Core.List.{List, [], ◌∷◌, ◌++◌, append-nil}
-use Prim.Native.Nat.{ℕ, ◌+◌, ◌-◌, ◌≤◌, ◌<◌, zero-le}
+use mathlib.Core.List.{[], ◌∷◌, ◌++◌, append-nil}
+use Prim.Native.Nat.{◌+◌, ◌-◌, ◌≤◌, ◌<◌, zero-le}
 use native.Mathlib.Omega.{arith}
 use lib.ListN.{length, drop, length-append, length-set, drop_of_length-le}
-use borrow.Author.Rules.{rules}
 use borrow.Author.Tests.{lt-ltb, le-ltb}
 use Rattle.decoding.specs.declared.End.TheVariants.{Next}
 use Rattle.numbers.specs.Several.{nothing, some, many}
@@ -25,7 +24,7 @@ skip_numbers-requires c = c.if-bytes-at.false
 pub returns-in_default : goal.returns-in_default
 returns-in_default c =
     let within : let a = c.args in stored_from a.bytes.now a.at a.room.now ≡ stored a.bytes.now a.room.now (many (length a.room.now) (drop a.at a.bytes.now)) =
-        let a = c.args in rw (le-ltb (length a.bytes.now) a.at c.if-bytes-at.false) in
+    let a = c.args in rw (le-ltb (length a.bytes.now) a.at c.if-bytes-at.false) in
     let a = c.args in
     let none = short a.bytes.now (many (length a.room.now) (drop a.at a.bytes.now)) (sym c.skip_numbers.ensures ∙ c.in_default.is) in
     (rw (within, none), rw (within, none))
@@ -43,7 +42,7 @@ shape_of-room-in_default-read_number c = c.loop-i.invariant.4
 pub returns-in_default-read_number : goal.returns-in_default-read_number
 returns-in_default-read_number c =
     let counted : let a = c.args in Ran a.bytes.now a.at (length a.room.now) c.in-Next.last =
-        let a = c.args in
+    let a = c.args in
     ran a.bytes.now a.at (length a.room.now) _ (λ i. (c.shared_slice_known-1.given i).fits) c.if-bytes-at.false (sym c.skip_numbers.ensures ∙ c.in-Next.is) in
     let k = counted in
     let a = c.args in
@@ -78,7 +77,7 @@ pub returns : goal.returns
 unfolding many
 returns c =
     let within : let a = c.args in stored_from a.bytes.now a.at a.room.now ≡ stored a.bytes.now a.room.now (many (length a.room.now) (drop a.at a.bytes.now)) =
-        let a = c.args in rw (le-ltb (length a.bytes.now) a.at c.if-bytes-at.false) in
+    let a = c.args in rw (le-ltb (length a.bytes.now) a.at c.if-bytes-at.false) in
     let l = c.before in
     let r = c.args in
     let s = r.bytes.now in

@@ -1,15 +1,9 @@
-use mathlib.Core.Path.{◌≡◌, refl, sym, ap, ◌∙◌}
-use mathlib.Core.List.{List, [], ◌∷◌, ◌++◌, append-nil}
-use Prim.Native.Nat.{ℕ, ◌+◌, ◌-◌, ◌≤◌, ◌<◌, zero-le}
-use native.Mathlib.Omega.{arith}
-use lib.ListN.{length, drop, length-append, length-set, drop_of_length-le}
-use borrow.Author.Rules.{rules}
-use borrow.Author.Tests.{lt-ltb, le-ltb}
-use Rattle.decoding.specs.declared.End.TheVariants.{Next}
-use Rattle.numbers.specs.Several.{nothing, some, many}
-use Rattle.decoding.specs.Place.{stored, stored_from, ended}
-use Rattle.numbers.specs.SeveralLaws.{not_some}
-use Rattle.decoding.specs.PlaceLaws.{Ran, ran, short, value-is, bad-is, many-bad, joined, joined-nil, joined_step, stored-end, store-next}
+use mathlib.Core.Path.{◌≡◌}
+use mathlib.Core.List.{List, ◌++◌}
+use Prim.Native.Nat.{ℕ, ◌-◌, ◌≤◌}
+use lib.ListN.{length, drop}
+use Rattle.numbers.specs.Several.{many}
+use Rattle.decoding.specs.PlaceLaws.{joined}
 use Rattle.decoding.proofs.read_numbers.Given as goal
 
 abbrev pub invariant-loop-i : goal.invariant-loop-i

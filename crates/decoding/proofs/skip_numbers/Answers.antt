@@ -1,10 +1,7 @@
 -- The end of all the numbers is the end of those that are left.
-use borrow.Author.Rules.{rules}
-use lib.ListN.{length, drop}
+use lib.ListN.{drop}
 use native.Mathlib.Omega.{arith}
 use mathlib.Core.Path.{◌≡◌, refl, sym, ap, ◌∙◌}
-use Prim.Native.Nat.{◌≤◌}
-use Rattle.numbers.specs.Several.{many}
 use Rattle.decoding.specs.Place.{ended}
 use Rattle.decoding.specs.PlaceLaws.{value-is, bad-is, many-bad, ended-step, ended-none}
 use Rattle.decoding.proofs.skip_numbers.Goals as goal

@@ -1,11 +1,8 @@
-use borrow.Author.Rules.{rules}
 use lib.ListN.{length, drop}
-use native.Mathlib.Omega.{arith}
-use mathlib.Core.Path.{◌≡◌, refl, sym, ap, ◌∙◌}
+use mathlib.Core.Path.{◌≡◌}
 use Prim.Native.Nat.{◌≤◌}
 use Rattle.numbers.specs.Several.{many}
 use Rattle.decoding.specs.Place.{ended}
-use Rattle.decoding.specs.PlaceLaws.{value-is, bad-is, many-bad, ended-step, ended-none}
 use Rattle.decoding.proofs.skip_numbers.Given as goal
 
 abbrev pub invariant-loop-left : goal.invariant-loop-left

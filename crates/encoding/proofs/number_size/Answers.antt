@@ -1,9 +1,7 @@
 -- What was counted and the groups left make the whole length.
 use lib.ListN.{length}
 use native.Mathlib.Omega.{arith}
-use mathlib.Core.Path.{◌≡◌, ap}
-use Prim.Native.Nat.{ℕ, suc, ◌+◌, ◌^◌, ◌<◌}
-use Rattle.numbers.specs.Seven.{groups, encode}
+use mathlib.Core.Path.{ap}
 use Rattle.numbers.specs.SevenLaws.{left, groups-most, groups-last}
 use Rattle.encoding.proofs.number_size.Goals as goal
 

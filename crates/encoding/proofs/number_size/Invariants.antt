@@ -1,9 +1,7 @@
 use lib.ListN.{length}
-use native.Mathlib.Omega.{arith}
-use mathlib.Core.Path.{◌≡◌, ap}
+use mathlib.Core.Path.{◌≡◌}
 use Prim.Native.Nat.{ℕ, suc, ◌+◌, ◌^◌, ◌<◌}
 use Rattle.numbers.specs.Seven.{groups, encode}
-use Rattle.numbers.specs.SevenLaws.{left, groups-most, groups-last}
 use Rattle.encoding.proofs.number_size.Given as goal
 
 abbrev pub invariant-loop-left : goal.invariant-loop-left

@@ -1,10 +1,9 @@
 -- The size so far is that of the numbers passed.
-use borrow.Author.Rules.{rules}
-use lib.ListN.{length, take}
+use lib.ListN.{length}
 use lib.Seq.{take_all}
 use native.Mathlib.Omega.{arith}
-use mathlib.Core.Path.{◌≡◌, refl, ap, ◌∙◌}
-use Prim.Native.Nat.{◌+◌, ◌-◌, ◌≤◌}
+use mathlib.Core.Path.{refl, ap, ◌∙◌}
+use Prim.Native.Nat.{◌+◌}
 use Rattle.numbers.specs.Several.{write_of}
 use Rattle.encoding.specs.Sizes.{size_step, size-part, size-most}
 use Rattle.encoding.proofs.numbers_size.Goals as goal

@@ -1,11 +1,7 @@
-use borrow.Author.Rules.{rules}
 use lib.ListN.{length, take}
-use lib.Seq.{take_all}
-use native.Mathlib.Omega.{arith}
-use mathlib.Core.Path.{◌≡◌, refl, ap, ◌∙◌}
-use Prim.Native.Nat.{◌+◌, ◌-◌, ◌≤◌}
+use mathlib.Core.Path.{◌≡◌}
+use Prim.Native.Nat.{◌-◌, ◌≤◌}
 use Rattle.numbers.specs.Several.{write_of}
-use Rattle.encoding.specs.Sizes.{size_step, size-part, size-most}
 use Rattle.encoding.proofs.numbers_size.Given as goal
 
 abbrev pub invariant-loop-counted : goal.invariant-loop-counted

@@ -1,9 +1,9 @@
 -- Putting the whole number is putting the groups that are left.
 use lib.ListN.{length, length-set}
 use native.Mathlib.Omega.{arith}
-use mathlib.Core.Path.{◌≡◌, refl, sym, ap, ◌∙◌}
-use Prim.Native.Nat.{ℕ, suc, ◌+◌, ◌/◌, ◌%◌, ◌^◌, ◌<◌}
-use Rattle.numbers.specs.Seven.{groups, encode}
+use mathlib.Core.Path.{refl, sym, ap, ◌∙◌}
+use Prim.Native.Nat.{suc, ◌+◌, ◌/◌, ◌%◌, ◌<◌}
+use Rattle.numbers.specs.Seven.{groups}
 use Rattle.numbers.specs.SevenLaws.{left, groups-some, groups-last}
 use Rattle.encoding.specs.Put.{put, put_one, put-cons}
 use Rattle.encoding.proofs.write_number.Goals as goal

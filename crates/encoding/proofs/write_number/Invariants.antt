@@ -1,10 +1,8 @@
-use lib.ListN.{length, length-set}
-use native.Mathlib.Omega.{arith}
-use mathlib.Core.Path.{◌≡◌, refl, sym, ap, ◌∙◌}
-use Prim.Native.Nat.{ℕ, suc, ◌+◌, ◌/◌, ◌%◌, ◌^◌, ◌<◌}
+use lib.ListN.{length}
+use mathlib.Core.Path.{◌≡◌}
+use Prim.Native.Nat.{ℕ, suc, ◌+◌, ◌^◌, ◌<◌}
 use Rattle.numbers.specs.Seven.{groups, encode}
-use Rattle.numbers.specs.SevenLaws.{left, groups-some, groups-last}
-use Rattle.encoding.specs.Put.{put, put_one, put-cons}
+use Rattle.encoding.specs.Put.{put}
 use Rattle.encoding.proofs.write_number.Given as goal
 
 abbrev pub invariant-loop-rest : goal.invariant-loop-rest

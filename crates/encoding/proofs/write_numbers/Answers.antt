@@ -3,8 +3,8 @@ use lib.ListN.{length, take, get_or}
 use lib.Seq.{take_all}
 use native.Mathlib.Omega.{arith}
 use mathlib.Core.List.{List}
-use mathlib.Core.Path.{◌≡◌, refl, sym, ap, ap₂, ◌∙◌}
-use Prim.Native.Nat.{ℕ, ◌+◌, ◌-◌, ◌≤◌}
+use mathlib.Core.Path.{refl, sym, ap, ap₂, ◌∙◌}
+use Prim.Native.Nat.{ℕ, ◌+◌}
 use Rattle.encoding.specs.Sizes.{size_step, size-part, write_step}
 use Rattle.encoding.specs.Put.{put, put-none, put-append}
 use Rattle.numbers.specs.Several.{write_of}

@@ -1,13 +1,8 @@
-use lib.ListN.{length, take, get_or}
-use lib.Seq.{take_all}
-use native.Mathlib.Omega.{arith}
-use mathlib.Core.List.{List}
-use mathlib.Core.Path.{◌≡◌, refl, sym, ap, ap₂, ◌∙◌}
-use Prim.Native.Nat.{ℕ, ◌+◌, ◌-◌, ◌≤◌}
-use Rattle.encoding.specs.Sizes.{size_step, size-part, write_step}
-use Rattle.encoding.specs.Put.{put, put-none, put-append}
+use lib.ListN.{length, take}
+use mathlib.Core.Path.{◌≡◌}
+use Prim.Native.Nat.{◌+◌, ◌-◌, ◌≤◌}
+use Rattle.encoding.specs.Put.{put}
 use Rattle.numbers.specs.Several.{write_of}
-use Rattle.numbers.specs.Seven.{encode}
 use Rattle.encoding.proofs.write_numbers.Given as goal
 
 abbrev pub invariant-loop-written : goal.invariant-loop-written

@@ -1,5 +1,5 @@
 use mathlib.Core.Path.{sym, ap₂, ◌∙◌}
-use lib.IntN.{ℤ, ◌+ℤ◌, ◌-ℤ◌}
+use lib.IntN.{◌+ℤ◌, ◌-ℤ◌}
 use Rattle.whole.specs.Machine.{Got, got, arg, kept, fits, add, sub}
 use Rattle.whole.specs.Tests.{lt_yes, lt_no}
 use Rattle.whole.specs.Amounts.{amount-within}

@@ -1,6 +1,5 @@
 use mathlib.Core.Path.{refl, sym, ap, ◌∙◌}
-use borrow.Author.Rules.{rules}
-use lib.IntN.{ℤ, pos, +ℤ_idl}
+use lib.IntN.{pos, +ℤ_idl}
 use lib.Signed.{◌≤ℤ◌, ◌<ℤ◌}
 use Rattle.whole.specs.Within.{lit, wider, within-neg}
 use Rattle.whole.specs.Machine.{Got, got, now, arg, held, kept, fits, passed, sub}
@@ -17,7 +16,7 @@ paid_up-requires c = (c.requires, wider (lit (pos 0)) tt)
 pub returns-then-free-ge0 : goal.returns-then-free-ge0
 returns-then-free-ge0 c =
     let enough : pos 0 ≤ℤ c.args.f.free =
-        le_yes {e = pos 0} refl (arg c.requires.free tt).eq c.if-free-ge0.true in
+    le_yes {e = pos 0} refl (arg c.requires.free tt).eq c.if-free-ge0.true in
     c.paid_up.ensures ∙ sym (settled-free c.args.f enough)
 
 -- the need, as the machine holds it
@@ -35,7 +34,7 @@ paid_up-requires-then-need-f c = (c.requires, passed (called c.before.before.bef
 pub returns-then-need-f : goal.returns-then-need-f
 returns-then-need-f c =
     let low : c.args.f.free <ℤ pos 0 =
-        le-no {e = pos 0} refl (arg c.requires.free tt).eq c.if-free-ge0.false in
+    le-no {e = pos 0} refl (arg c.requires.free tt).eq c.if-free-ge0.false in
     let covered = le_yes (called c.before.before.before.before.before.before).reads.eq (arg (cash-within c.requires) tt).eq c.if-need-f.true in
     c.paid_up-then-need-f.ensures
     ∙ ap (paid_up c.args.f) (called c.before.before.before.before.before.before).reads.eq
@@ -44,6 +43,6 @@ returns-then-need-f c =
 pub returns : goal.returns
 returns c =
     let low : c.args.f.free <ℤ pos 0 =
-        le-no {e = pos 0} refl (arg c.requires.free tt).eq c.if-free-ge0.false in
+    le-no {e = pos 0} refl (arg c.requires.free tt).eq c.if-free-ge0.false in
     let short = le-no (called c.before.before.before.before.before.before).reads.eq (arg (cash-within c.requires) tt).eq c.if-need-f.false in
     c.in_default.ensures ∙ sym (settled-default c.args.f low short)

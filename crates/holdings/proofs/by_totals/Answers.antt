@@ -1,5 +1,4 @@
 use mathlib.Core.Path.{sym, ◌∙◌}
-use borrow.Author.Rules.{rules}
 use Rattle.holdings.proofs.by_totals.Goals as goal
 
 pub returns-then-is_over : goal.returns-then-is_over

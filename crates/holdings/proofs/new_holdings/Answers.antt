@@ -1,5 +1,4 @@
 use mathlib.Core.Path.{◌∙◌}
-use borrow.Author.Rules.{rules}
 use Rattle.whole.specs.Machine.{told}
 use Rattle.holdings.specs.Holdings.{new_holdings}
 use Rattle.holdings.proofs.new_holdings.Goals as goal

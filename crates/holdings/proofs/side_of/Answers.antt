@@ -1,5 +1,4 @@
 use mathlib.Core.Path.{sym, ap, ◌∙◌}
-use borrow.Author.Rules.{rules}
 use Rattle.holdings.specs.Limits.{by_totals}
 use Rattle.holdings.specs.Limits.{side_of}
 use Rattle.holdings.proofs.side_of.Goals as goal

@@ -1,6 +1,5 @@
 use mathlib.Core.Path.{◌∙◌}
 use native.Mathlib.Omega.{arith}
-use borrow.Author.Rules.{rules}
 use Rattle.whole.specs.Machine.{Got, got, arg, told, kept, fits, add}
 use Rattle.whole.specs.Amounts.{amount-within}
 use Rattle.positions.specs.BoundLaws.{nets-wider}

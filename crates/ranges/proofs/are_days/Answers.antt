@@ -1,10 +1,7 @@
 -- The answer is whether what is left are days.
-use mathlib.Core.Path.{◌≡◌, refl, sym, ◌∙◌}
-use Prim.Native.Nat.{◌-◌}
-use lib.ListN.{length, drop}
+use mathlib.Core.Path.{refl, sym, ◌∙◌}
 use borrow.Author.Tests.{le-leb, lt-leb}
-use native.Mathlib.Omega.{arith}
-use Rattle.lists.specs.Passing.{all, all_more, all-stop, all_end}
+use Rattle.lists.specs.Passing.{all_more, all-stop, all_end}
 use Rattle.fields.specs.Fields.{day}
 use Rattle.ranges.specs.Ranges.{within_ceilings}
 use Rattle.ranges.specs.RangeLaws.{day-written}

@@ -1,12 +1,9 @@
-use mathlib.Core.Path.{◌≡◌, refl, sym, ◌∙◌, subst}
-use Prim.Native.Nat.{◌-◌, ◌≤◌, ◌<◌}
-use native.Mathlib.Omega.{arith}
-use lib.ListN.{drop, get_or}
-use Rattle.lists.specs.Table.{every, every_more, every-stop, every-end}
-use Rattle.ranges.specs.declared.Row.{Row}
+use mathlib.Core.Path.{◌≡◌}
+use Prim.Native.Nat.{◌-◌}
+use lib.ListN.{drop}
+use Rattle.lists.specs.Table.{every}
 use Rattle.fields.specs.Fields.{fields_of}
 use Rattle.ranges.specs.Cells.{cell_within, cells_within}
-use Rattle.ranges.specs.CellLaws.{under-row, over-row, in_row}
 use Rattle.ranges.proofs.are_in_cells.Given as goal
 
 abbrev pub invariant-loop-field : goal.invariant-loop-field

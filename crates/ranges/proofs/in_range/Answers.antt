@@ -3,7 +3,6 @@ use mathlib.Core.Path.{◌≡◌, sym, ap, ◌∙◌}
 use mathlib.Core.Bool.{true, ◌&&◌, and-true}
 use native.Mathlib.Omega.{arith}
 use lib.ListN.{length}
-use borrow.Author.Rules.{rules}
 use borrow.Author.Tests.{not-true, not-false}
 use Rattle.fields.specs.Fields.{fields_of, shaped}
 use Rattle.ranges.specs.Ranges.{all_within}
@@ -24,9 +23,9 @@ are_in_cells-requires c = (shape-tells _ _ _ (shape_is c)).below
 pub returns-then-not-are_in_cells : goal.returns-then-not-are_in_cells
 returns-then-not-are_in_cells c =
     let shape_is : let a = c.args in shaped a.kind a.fields (length a.exceptions.now) ≡ true =
-        sym c.is_shaped.ensures ∙ not-false _ c.if-not-is_shaped.false-raw in
+    sym c.is_shaped.ensures ∙ not-false _ c.if-not-is_shaped.false-raw in
     let within-is : let a = c.args in all_within (fields_of a.kind) a.fields ≡ c.are_in_cells.result =
-        let a = c.args in
+    let a = c.args in
     let w = all_within (fields_of a.kind) a.fields in
     let t = shape-tells _ _ _ shape_is in
     sym (c.are_in_cells.ensures ∙ cells_are (fields_of a.kind) a.fields (omega (arith, counts-most a.kind)) ∙ ap (λ z. w && z) t.zeros ∙ and-true w) in
@@ -35,9 +34,9 @@ returns-then-not-are_in_cells c =
 pub returns-then-not-are_days : goal.returns-then-not-are_days
 returns-then-not-are_days c =
     let shape_is : let a = c.args in shaped a.kind a.fields (length a.exceptions.now) ≡ true =
-        sym c.is_shaped.ensures ∙ not-false _ c.if-not-is_shaped.false-raw in
+    sym c.is_shaped.ensures ∙ not-false _ c.if-not-is_shaped.false-raw in
     let within-is : let a = c.args in all_within (fields_of a.kind) a.fields ≡ c.are_in_cells.result =
-        let a = c.args in
+    let a = c.args in
     let w = all_within (fields_of a.kind) a.fields in
     let t = shape-tells _ _ _ shape_is in
     sym (c.are_in_cells.ensures ∙ cells_are (fields_of a.kind) a.fields (omega (arith, counts-most a.kind)) ∙ ap (λ z. w && z) t.zeros ∙ and-true w) in
@@ -46,9 +45,9 @@ returns-then-not-are_days c =
 pub returns-then-are_rising : goal.returns-then-are_rising
 returns-then-are_rising c =
     let shape_is : let a = c.args in shaped a.kind a.fields (length a.exceptions.now) ≡ true =
-        sym c.is_shaped.ensures ∙ not-false _ c.if-not-is_shaped.false-raw in
+    sym c.is_shaped.ensures ∙ not-false _ c.if-not-is_shaped.false-raw in
     let within-is : let a = c.args in all_within (fields_of a.kind) a.fields ≡ c.are_in_cells.result =
-        let a = c.args in
+    let a = c.args in
     let w = all_within (fields_of a.kind) a.fields in
     let t = shape-tells _ _ _ shape_is in
     sym (c.are_in_cells.ensures ∙ cells_are (fields_of a.kind) a.fields (omega (arith, counts-most a.kind)) ∙ ap (λ z. w && z) t.zeros ∙ and-true w) in
@@ -57,9 +56,9 @@ returns-then-are_rising c =
 pub returns-else-are_rising : goal.returns-else-are_rising
 returns-else-are_rising c =
     let shape_is : let a = c.args in shaped a.kind a.fields (length a.exceptions.now) ≡ true =
-        sym c.is_shaped.ensures ∙ not-false _ c.if-not-is_shaped.false-raw in
+    sym c.is_shaped.ensures ∙ not-false _ c.if-not-is_shaped.false-raw in
     let within-is : let a = c.args in all_within (fields_of a.kind) a.fields ≡ c.are_in_cells.result =
-        let a = c.args in
+    let a = c.args in
     let w = all_within (fields_of a.kind) a.fields in
     let t = shape-tells _ _ _ shape_is in
     sym (c.are_in_cells.ensures ∙ cells_are (fields_of a.kind) a.fields (omega (arith, counts-most a.kind)) ∙ ap (λ z. w && z) t.zeros ∙ and-true w) in

@@ -1,6 +1,5 @@
 -- antt computes the whole table from the definitions, and finds it to be the code's: `refl`.
 use mathlib.Core.Path.{refl}
-use borrow.Author.Rules.{rules}
 use Rattle.fields.specs.Fields.{kinds, ceilings}
 use Rattle.ranges.specs.Cells.{ends}
 use Rattle.ranges.specs.CellLaws.{row_at}

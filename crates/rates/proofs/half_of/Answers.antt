@@ -1,6 +1,5 @@
 use native.Mathlib.Nat.{mul-le-mul}
 use native.Mathlib.Omega.{arith}
-use borrow.Author.Rules.{rules}
 use Rattle.whole.specs.Machine.{arg, kept, fits, unsigned, add, mul}
 use Rattle.tallies.specs.MeanLaws.{fair-size}
 use Rattle.rates.specs.Rules.{halfway}

@@ -1,5 +1,4 @@
 use mathlib.Core.Path.{◌≡◌, subst, ap, ◌∙◌}
-use borrow.Author.Rules.{rules}
 use Rattle.whole.specs.Machine.{told, back}
 use Rattle.tallies.specs.Tally.{side_in}
 use Rattle.rates.specs.Settling.{Divides}

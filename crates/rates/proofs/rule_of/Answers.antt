@@ -1,4 +1,3 @@
-use borrow.Author.Rules.{rules}
 use borrow.Author.Tests.{lt-leb, le-leb}
 use Rattle.tallies.specs.Tally.{side_in}
 use Rattle.rates.specs.Rules.{rule_at}

@@ -1,5 +1,4 @@
 use mathlib.Core.Path.{ap₂, ◌∙◌}
-use borrow.Author.Rules.{rules}
 use Rattle.whole.specs.Machine.{told, back}
 use Rattle.rates.specs.Settling.{rate_from}
 use Rattle.rates.specs.RuleLaws.{settled-by, rule-divides}

@@ -1,6 +1,5 @@
 use mathlib.Core.Path.{sym, ap}
 use native.Mathlib.Omega.{arith}
-use borrow.Author.Rules.{rules}
 use Rattle.rates.specs.Settling.{used_from}
 use Rattle.rates.proofs.used_by.Goals as goal
 

@@ -1,10 +1,9 @@
 -- The row so far holds the numbers passed, with zeros after them.
 use mathlib.Core.Path.{◌≡◌, refl, sym, ap, ◌∙◌}
-use mathlib.Core.List.{List, [], ◌∷◌, ◌++◌, append-nil}
-use Prim.Native.Nat.{ℕ, ◌+◌, ◌-◌, ◌≤◌}
+use mathlib.Core.List.{[], ◌∷◌, ◌++◌, append-nil}
+use Prim.Native.Nat.{◌+◌, ◌-◌}
 use native.Mathlib.Omega.{arith}
-use lib.ListN.{length, drop, replicate, length-append}
-use borrow.Author.Rules.{rules}
+use lib.ListN.{drop, length-append}
 use Rattle.numbers.specs.Several.{many}
 use Rattle.decoding.specs.PlaceLaws.{value-is, bad-is, many-bad, joined, joined-nil, joined_step, end-here}
 use Rattle.records.specs.Steps.{filled}

@@ -1,13 +1,9 @@
-use mathlib.Core.Path.{◌≡◌, refl, sym, ap, ◌∙◌}
-use mathlib.Core.List.{List, [], ◌∷◌, ◌++◌, append-nil}
-use Prim.Native.Nat.{ℕ, ◌+◌, ◌-◌, ◌≤◌}
-use native.Mathlib.Omega.{arith}
-use lib.ListN.{length, drop, replicate, length-append}
-use borrow.Author.Rules.{rules}
+use mathlib.Core.Path.{◌≡◌}
+use mathlib.Core.List.{List, ◌++◌}
+use Prim.Native.Nat.{ℕ, ◌-◌, ◌≤◌}
+use lib.ListN.{length, drop, replicate}
 use Rattle.numbers.specs.Several.{many}
-use Rattle.decoding.specs.PlaceLaws.{value-is, bad-is, many-bad, joined, joined-nil, joined_step, end-here}
-use Rattle.records.specs.Steps.{filled}
-use Rattle.records.specs.ReadingLaws.{store}
+use Rattle.decoding.specs.PlaceLaws.{joined}
 use Rattle.records.proofs.read_fields.Given as goal
 
 abbrev pub invariant-loop-i : goal.invariant-loop-i

@@ -1,19 +1,17 @@
 -- Each step goes from place to place: the kind, its count of fields, the fields.
 use mathlib.Core.Path.{◌≡◌, sym, ap, ◌∙◌}
-use mathlib.Core.Bool.{true}
 use mathlib.Core.List.{List}
 use Prim.Native.Nat.{ℕ, ◌<◌}
 use lib.ListN.{get_or, drop}
 use mir.Syntax.{w8}
 use mir.Val.{Fits}
-use borrow.Author.Rules.{rules}
 use Rattle.numbers.specs.Below.{Small}
 use Rattle.numbers.specs.Several.{many, some}
 use Rattle.decoding.specs.Place.{ended}
 use Rattle.decoding.specs.PlaceLaws.{Moved, value-is, bad-is, Ran, ran, short}
-use Rattle.fields.specs.Fields.{known, count}
+use Rattle.fields.specs.Fields.{count}
 use Rattle.fields.specs.FieldLaws.{is_known, is-unknown, counts-most, counted, uncounted}
-use Rattle.records.specs.Reading.{padded, reading_at}
+use Rattle.records.specs.Reading.{reading_at}
 use Rattle.records.specs.declared.Reading.{Reading}
 use Rattle.records.specs.declared.Fields.{Fields}
 use Rattle.decoding.specs.declared.End.TheVariants.{Next}

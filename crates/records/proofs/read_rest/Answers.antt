@@ -3,7 +3,6 @@ use mathlib.Core.Path.{sym, ap, ◌∙◌}
 use mathlib.Core.List.{List}
 use Prim.Native.Nat.{ℕ}
 use native.Mathlib.Omega.{arith}
-use borrow.Author.Rules.{rules}
 use Rattle.lists.specs.Parts.{part-rest}
 use Rattle.records.specs.Reading.{reading_at}
 use Rattle.records.specs.ReadingLaws.{rest-none}

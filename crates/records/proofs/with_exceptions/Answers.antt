@@ -2,7 +2,6 @@
 use mathlib.Core.Path.{sym, ap, ◌∙◌, subst}
 use Prim.Native.Nat.{◌≤◌, ◌<◌}
 use lib.ListN.{drop}
-use borrow.Author.Rules.{rules}
 use Rattle.numbers.specs.Several.{many}
 use Rattle.decoding.specs.PlaceLaws.{ran, short}
 use Rattle.fields.specs.Fields.{announced}
@@ -20,7 +19,7 @@ skip_numbers-requires c = c.requires
 pub returns-in_default : goal.returns-in_default
 returns-in_default c =
     let few : let a = c.args in announced a.kind a.fields ≤ 400 =
-        subst (λ z. z ≤ 400) c.announced-count.ensures c.if-count-gt-EXCEPTIONS.false in
+    subst (λ z. z ≤ 400) c.announced-count.ensures c.if-count-gt-EXCEPTIONS.false in
     let k = c.before.before.before in
     let args = c.args in
     c.malformed-in_default.ensures
@@ -29,7 +28,7 @@ returns-in_default c =
 pub returns : goal.returns
 returns c =
     let few : let a = c.args in announced a.kind a.fields ≤ 400 =
-        subst (λ z. z ≤ 400) c.announced-count.ensures c.if-count-gt-EXCEPTIONS.false in
+    subst (λ z. z ≤ 400) c.announced-count.ensures c.if-count-gt-EXCEPTIONS.false in
     let k = c.before.before.before in
     let args = c.args in
     let s = args.bytes.now in

@@ -83,7 +83,7 @@ returns-then-room-size c =
     let bytes = writing (entry kind (take n cells) exceptions) in
     let known : Row kind n cells exceptions = record { shape = sym c.is_shaped.ensures ∙ not-false _ c.if-not-is_shaped.false-raw; fields = (counted c.args.kind c.in-Of.n (sym c.count_of.ensures ∙ c.in-Of.is)).1; thirteen = search rules } in
     let sizes : c.number_size.result + c.numbers_size.result + c.numbers_size-2.result ≡ length bytes =
-        omega (arith, size-record kind (take n cells) exceptions, c.number_size.ensures, c.numbers_size.ensures, c.numbers_size-2.ensures) in
+    omega (arith, size-record kind (take n cells) exceptions, c.number_size.ensures, c.numbers_size.ensures, c.numbers_size-2.ensures) in
     sym (no_room room kind cells exceptions known.shape n known.fields (subst (λ z. length room < z) sizes c.if-room-size.true))
 
 pub slice_bounds-fields-end-2 : goal.slice_bounds-fields-end-2
@@ -107,7 +107,7 @@ returns c =
     let known : Row kind n cells exceptions = record { shape = sym c.is_shaped.ensures ∙ not-false _ c.if-not-is_shaped.false-raw; fields = (counted c.args.kind c.in-Of.n (sym c.count_of.ensures ∙ c.in-Of.is)).1; thirteen = search rules } in
     let size = size-record kind (take n cells) exceptions in
     let sizes : c.number_size.result + c.numbers_size.result + c.numbers_size-2.result ≡ length bytes =
-        omega (arith, size, c.number_size.ensures, c.numbers_size.ensures, c.numbers_size-2.ensures) in
+    omega (arith, size, c.number_size.ensures, c.numbers_size.ensures, c.numbers_size-2.ensures) in
     let x = c.write_number-first in
     let y = c.write_numbers-second in
     let z = c.write_numbers-last in

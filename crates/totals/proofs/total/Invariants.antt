@@ -1,15 +1,9 @@
-use mathlib.Core.Path.{◌≡◌, sym, ◌∙◌}
-use Prim.Native.Nat.{◌+◌, ◌-◌, ◌≤◌}
-use native.Mathlib.Omega.{arith}
+use mathlib.Core.Path.{◌≡◌}
+use Prim.Native.Nat.{◌-◌, ◌≤◌}
 use lib.ListN.{take}
-use mir.Syntax.{w64}
-use mir.Val.{to_z}
 use Rattle.lists.specs.Zipped.{zipped}
-use Rattle.whole.specs.Machine.{Got, got, kept, fits}
-use Rattle.whole.specs.Sums.{sum_z, sum-none}
-use Rattle.positions.specs.Rows.{row_more, rows_all}
-use Rattle.totals.specs.Totals.{asked, total}
-use Rattle.totals.proofs.BoundLaws.{asked-each}
+use Rattle.whole.specs.Sums.{sum_z}
+use Rattle.totals.specs.Totals.{asked}
 use Rattle.totals.proofs.total.Given as goal
 
 -- the sum over the rows that the loop has passed

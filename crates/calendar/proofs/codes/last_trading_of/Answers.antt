@@ -1,6 +1,5 @@
 -- By the two cases of the code.
 use mathlib.Core.Path.{sym, ◌∙◌}
-use borrow.Author.Rules.{rules}
 use Rattle.calendar.proofs.codes.last_trading_of.Goals as goal
 
 pub returns-in-Is : goal.returns-in-Is

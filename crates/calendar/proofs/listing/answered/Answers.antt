@@ -1,5 +1,4 @@
 -- The two answers are those of the definition.
-use borrow.Author.Rules.{rules}
 use Rattle.calendar.proofs.listing.answered.Goals as goal
 
 pub returns-then-c : goal.returns-then-c

@@ -1,10 +1,7 @@
-use mathlib.Core.Path.{◌≡◌, sym, ap, ◌∙◌}
+use mathlib.Core.Path.{◌≡◌}
 use Prim.Native.Nat.{◌+◌, ◌-◌, ◌≤◌}
 use Rattle.days.specs.Days.{is_working}
-use Rattle.calendar.specs.Choosing.{considered, answered, chosen_before}
-use Rattle.calendar.specs.ChoosingLaws.{chosen_none, chosen-next, chosen-most, full-listing, short-listing}
-use native.Mathlib.Omega.{arith}
-use borrow.Author.Rules.{rules}
+use Rattle.calendar.specs.Choosing.{chosen_before}
 use Rattle.calendar.proofs.listing.listed_on.Given as goal
 
 abbrev pub invariant-loop-number : goal.invariant-loop-number

@@ -1,4 +1,3 @@
-use borrow.Author.Rules.{rules}
 use Rattle.lists.specs.Parts.{part-width}
 use Rattle.memory.proofs.account_rows.load_account.Goals as goal
 

@@ -1,4 +1,3 @@
-use borrow.Author.Rules.{rules}
 use Rattle.memory.proofs.account_rows.positions_in.Goals as goal
 
 pub returns : goal.returns

@@ -1,4 +1,3 @@
-use borrow.Author.Rules.{rules}
 use Rattle.lists.specs.Parts.{sets-all}
 use Rattle.memory.specs.Rows.{account_counts}
 use Rattle.memory.proofs.account_rows.put_account_counts.Goals as goal

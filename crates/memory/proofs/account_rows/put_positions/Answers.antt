@@ -1,12 +1,12 @@
 use mathlib.Core.Path.{◌≡◌, refl, ◌∙◌}
-use Prim.Native.Nat.{◌*◌, ◌-◌, ◌≤◌}
+use Prim.Native.Nat.{◌*◌}
 use native.Mathlib.Omega.{arith}
 use borrow.Author.Rules.{rules}
 use lib.ListN.{length, get_or}
 use Rattle.lists.specs.Parts.{part-width}
 use Rattle.lists.specs.Tabulate.{tab}
 use Rattle.lists.specs.Block.{block}
-use Rattle.lists.specs.Written.{written, written_next, written_all}
+use Rattle.lists.specs.Written.{written_next, written_all}
 use Rattle.positions.specs.Deals.{flat}
 use Rattle.memory.specs.Rows.{position_cells}
 use Rattle.memory.proofs.account_rows.put_positions.Goals as goal

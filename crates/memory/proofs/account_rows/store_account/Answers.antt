@@ -1,4 +1,3 @@
-use borrow.Author.Rules.{rules}
 use Rattle.lists.specs.Parts.{part-width}
 use Rattle.memory.proofs.account_rows.store_account.Goals as goal
 
@@ -6,5 +5,4 @@ pub returns : goal.returns
 returns c = (
   rw c.put_account_counts.ensures (simp part-width),
   rw c.put_account_money.ensures (simp part-width),
-
 )

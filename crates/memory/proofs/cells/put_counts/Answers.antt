@@ -1,7 +1,4 @@
-use Prim.Native.Nat.{◌-◌}
-use native.Mathlib.Omega.{arith}
-use lib.ListN.{length}
-use Rattle.memory.proofs.Written.{Written, written_none, written-more, written_all}
+use Rattle.memory.proofs.Written.{written_none, written-more, written_all}
 use Rattle.memory.proofs.cells.put_counts.Goals as goal
 
 pub loop-place-init : goal.loop-place-init

@@ -1,7 +1,6 @@
 use Prim.Native.Nat.{◌-◌}
-use native.Mathlib.Omega.{arith}
 use lib.ListN.{length}
-use Rattle.memory.proofs.Written.{Written, written_none, written-more, written_all}
+use Rattle.memory.proofs.Written.{Written}
 use Rattle.memory.proofs.cells.put_counts.Given as goal
 
 abbrev pub invariant-loop-place : goal.invariant-loop-place

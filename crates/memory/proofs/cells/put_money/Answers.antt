@@ -1,9 +1,7 @@
-use Prim.Native.Nat.{◌-◌}
-use native.Mathlib.Omega.{arith}
 use lib.IntN.{pos}
-use lib.ListN.{length, get_or}
+use lib.ListN.{get_or}
 use Rattle.whole.specs.Machine.{told}
-use Rattle.memory.proofs.Written.{Written, written_none, written-more, written_all}
+use Rattle.memory.proofs.Written.{written_none, written-more, written_all}
 use Rattle.memory.proofs.cells.put_money.Goals as goal
 
 pub loop-place-init : goal.loop-place-init

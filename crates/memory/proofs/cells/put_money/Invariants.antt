@@ -1,9 +1,6 @@
 use Prim.Native.Nat.{◌-◌}
-use native.Mathlib.Omega.{arith}
-use lib.IntN.{pos}
-use lib.ListN.{length, get_or}
-use Rattle.whole.specs.Machine.{told}
-use Rattle.memory.proofs.Written.{Written, written_none, written-more, written_all}
+use lib.ListN.{length}
+use Rattle.memory.proofs.Written.{Written}
 use Rattle.memory.proofs.cells.put_money.Given as goal
 
 abbrev pub invariant-loop-place : goal.invariant-loop-place

@@ -1,5 +1,4 @@
 use Rattle.whole.specs.Machine.{told}
-use borrow.Author.Rules.{rules}
 use Rattle.memory.proofs.contract_rows.contract_money.Goals as goal
 
 pub returns : goal.returns

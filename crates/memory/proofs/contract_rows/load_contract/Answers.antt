@@ -1,5 +1,4 @@
 use Rattle.lists.specs.Parts.{part-width}
-use borrow.Author.Rules.{rules}
 use Rattle.memory.proofs.contract_rows.load_contract.Goals as goal
 
 pub returns : goal.returns

@@ -1,4 +1,3 @@
-use borrow.Author.Rules.{rules}
 use Rattle.memory.proofs.contract_rows.store_contract.Goals as goal
 
 pub returns : goal.returns

@@ -1,5 +1,4 @@
 use Rattle.lists.specs.Parts.{part-width}
-use borrow.Author.Rules.{rules}
 use Rattle.memory.proofs.outcome_rows.load_outcome.Goals as goal
 
 pub returns : goal.returns

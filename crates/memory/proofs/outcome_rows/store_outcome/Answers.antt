@@ -1,4 +1,3 @@
-use borrow.Author.Rules.{rules}
 use Rattle.memory.proofs.outcome_rows.store_outcome.Goals as goal
 
 pub returns : goal.returns

@@ -1,8 +1,5 @@
-use Prim.Native.Nat.{◌-◌}
-use native.Mathlib.Omega.{arith}
 use lib.IntN.{pos}
-use lib.ListN.{length}
-use Rattle.memory.proofs.Written.{Cleared, cleared-none, cleared_more, cleared-all}
+use Rattle.memory.proofs.Written.{cleared-none, cleared_more, cleared-all}
 use Rattle.memory.proofs.room.clear_money.Goals as goal
 
 pub loop-place-init : goal.loop-place-init

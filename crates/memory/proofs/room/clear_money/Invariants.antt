@@ -1,8 +1,7 @@
 use Prim.Native.Nat.{◌-◌}
-use native.Mathlib.Omega.{arith}
 use lib.IntN.{pos}
 use lib.ListN.{length}
-use Rattle.memory.proofs.Written.{Cleared, cleared-none, cleared_more, cleared-all}
+use Rattle.memory.proofs.Written.{Cleared}
 use Rattle.memory.proofs.room.clear_money.Given as goal
 
 abbrev pub invariant-loop-place : goal.invariant-loop-place

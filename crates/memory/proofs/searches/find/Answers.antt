@@ -1,13 +1,11 @@
-use mathlib.Core.Path.{◌≡◌, sym, ◌∙◌}
-use mathlib.Core.List.{List}
-use Prim.Native.Nat.{ℕ, ◌+◌, ◌*◌, ◌-◌, ◌<◌}
+use mathlib.Core.Path.{sym, ◌∙◌}
+use Prim.Native.Nat.{◌+◌, ◌*◌, ◌<◌}
 use native.Mathlib.Nat.{mul-le-mul_right, sub-zero}
 use native.Mathlib.Omega.{arith}
-use lib.ListN.{length, get_or}
-use Rattle.lists.specs.Seek.{seek, seek_hit, seek-miss, seek-none}
+use lib.ListN.{length}
+use Rattle.lists.specs.Seek.{seek_hit, seek-miss, seek-none}
 use Rattle.memory.proofs.searches.find.Goals as goal
 use Rattle.memory.proofs.searches.find.Goals.{In-loop-i}
-use Rattle.memory.proofs.searches.find.Invariants.{key_at}
 
 -- the cell of the row at hand is one of the slice's
 inside : (c : In-loop-i) →

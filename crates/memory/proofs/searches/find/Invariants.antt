@@ -1,10 +1,8 @@
-use mathlib.Core.Path.{◌≡◌, sym, ◌∙◌}
+use mathlib.Core.Path.{◌≡◌}
 use mathlib.Core.List.{List}
-use Prim.Native.Nat.{ℕ, ◌+◌, ◌*◌, ◌-◌, ◌<◌}
-use native.Mathlib.Nat.{mul-le-mul_right, sub-zero}
-use native.Mathlib.Omega.{arith}
-use lib.ListN.{length, get_or}
-use Rattle.lists.specs.Seek.{seek, seek_hit, seek-miss, seek-none}
+use Prim.Native.Nat.{ℕ, ◌+◌, ◌*◌, ◌-◌}
+use lib.ListN.{get_or}
+use Rattle.lists.specs.Seek.{seek}
 use Rattle.memory.proofs.searches.find.Given as goal
 
 abbrev pub key_at : List ℕ → ℕ → ℕ → ℕ → ℕ
