@@ -20,10 +20,10 @@ returns-in_default-clause-further c = further-not c.requires.at_in_bounds c.stop
 pub returns-in_default-answer : goal.returns-in_default-answer
 returns-in_default-answer c =
     let far = followed-further c.follow-followed.ensures c.in-Next.is (λ i. (c.shared_slice_known-2-1.given i).fits) in
-    (
-      rw c.moved.ensures.1 (followed-on c.follow-followed.ensures c.in-Next.is c.requires.followable),
-      further-on (rw c.moved.ensures.0 far.0) (rw c.moved.ensures.0 far.1),
-    )
+    record {
+      followable_2 = rw c.moved.ensures.1 (followed-on c.follow-followed.ensures c.in-Next.is c.requires.followable);
+      further = further-on (rw c.moved.ensures.0 far.0) (rw c.moved.ensures.0 far.1);
+    }
 
 pub close_lines-lines-requires : goal.close_lines-lines-requires
 close_lines-lines-requires c =
