@@ -35,16 +35,16 @@ explained-found-requires-clause-sound c = followable-sound (followed-on c.follow
 pub explained-found-requires-clause-rows_in_bounds : goal.explained-found-requires-clause-rows_in_bounds
 explained-found-requires-clause-rows_in_bounds c =
     let closing =
-        followed-closing c.follow-followed.ensures c.in-Next.is c.requires.followable c.in-Closed.is c.standing_of-before.ensures in
+    followed-closing c.follow-followed.ensures c.in-Next.is c.requires.followable c.in-Closed.is c.standing_of-before.ensures in
     explained-table c.close_lines-lines.ensures closing
 
 pub returns-clause-followable_2 : goal.returns-clause-followable_2
 returns-clause-followable_2 c =
     let closing =
-        followed-closing c.follow-followed.ensures c.in-Next.is c.requires.followable c.in-Closed.is c.standing_of-before.ensures in
+    followed-closing c.follow-followed.ensures c.in-Next.is c.requires.followable c.in-Closed.is c.standing_of-before.ensures in
     rw c.day_over.ensures.1
-        (closed-followable c.follow-followed.ensures c.in-Next.is c.requires.followable c.in-Closed.is
-        (explained-long c.close_lines-lines.ensures closing))
+    (closed-followable c.follow-followed.ensures c.in-Next.is c.requires.followable c.in-Closed.is
+    (explained-long c.close_lines-lines.ensures closing))
 
 pub returns-clause-further : goal.returns-clause-further
 returns-clause-further c =
