@@ -1,5 +1,5 @@
 -- A record taken brings the end nearer, and a turn keeps what the next one needs.
-use Rattle.std.specs.Prelude.{◌≡◌, Bool, true, false, cond, List, ℕ, ◌-◌, ◌≤◌, ◌<◌, ℤ}
+use Rattle.std.specs.Prelude.{◌≡◌, Bool, true, false, cond, List, ℕ, ◌≤◌, ◌<◌, ℤ}
 use Rattle.std.proofs.Common.{arith}
 use Rattle.window.specs.declared.Window.{Window}
 use Rattle.window.specs.Window.{Within}

@@ -20,10 +20,10 @@ returns-in_default-clause-further c = further-not c.requires.at_in_bounds c.stop
 pub returns-in_default-answer : goal.returns-in_default-answer
 returns-in_default-answer c =
     let far = followed-further c.follow-followed.ensures c.in-Next.is (λ i. (c.shared_slice_known-2-1.given i).fits) in
-    (
-      rw c.moved.ensures.1 (followed-on c.follow-followed.ensures c.in-Next.is c.requires.followable),
-      further-on (rw c.moved.ensures.0 far.0) (rw c.moved.ensures.0 far.1),
-    )
+    record {
+      followable_2 = rw c.moved.ensures.1 (followed-on c.follow-followed.ensures c.in-Next.is c.requires.followable);
+      further = further-on (rw c.moved.ensures.0 far.0) (rw c.moved.ensures.0 far.1);
+    }
 
 pub close_lines-lines-requires : goal.close_lines-lines-requires
 close_lines-lines-requires c =
@@ -35,16 +35,16 @@ explained-found-requires-clause-sound c = followable-sound (followed-on c.follow
 pub explained-found-requires-clause-rows_in_bounds : goal.explained-found-requires-clause-rows_in_bounds
 explained-found-requires-clause-rows_in_bounds c =
     let closing =
-        followed-closing c.follow-followed.ensures c.in-Next.is c.requires.followable c.in-Closed.is c.standing_of-before.ensures in
+    followed-closing c.follow-followed.ensures c.in-Next.is c.requires.followable c.in-Closed.is c.standing_of-before.ensures in
     explained-table c.close_lines-lines.ensures closing
 
 pub returns-clause-followable_2 : goal.returns-clause-followable_2
 returns-clause-followable_2 c =
     let closing =
-        followed-closing c.follow-followed.ensures c.in-Next.is c.requires.followable c.in-Closed.is c.standing_of-before.ensures in
+    followed-closing c.follow-followed.ensures c.in-Next.is c.requires.followable c.in-Closed.is c.standing_of-before.ensures in
     rw c.day_over.ensures.1
-        (closed-followable c.follow-followed.ensures c.in-Next.is c.requires.followable c.in-Closed.is
-        (explained-long c.close_lines-lines.ensures closing))
+    (closed-followable c.follow-followed.ensures c.in-Next.is c.requires.followable c.in-Closed.is
+    (explained-long c.close_lines-lines.ensures closing))
 
 pub returns-clause-further : goal.returns-clause-further
 returns-clause-further c =

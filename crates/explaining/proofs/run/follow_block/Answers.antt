@@ -26,8 +26,7 @@ pub loop-q-preserved : goal.loop-q-preserved
 loop-q-preserved c =
     let inv = c.loop-q.invariant in
     let before = inv.1.0.on in
-    let after = c.take_record-s.ensures.further.on in
-    (
+    let after = c.take_record-s.ensures.further.on in (
       c.take_record-s.ensures.followable_2,
       (
         record { on = omega arith; inside = c.take_record-s.ensures.further.inside },

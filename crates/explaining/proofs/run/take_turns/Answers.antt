@@ -5,8 +5,7 @@ use Rattle.explaining.proofs.run.take_turns.Goals as goal
 
 pub loop-turns-init : goal.loop-turns-init
 loop-turns-init g c =
-    let window = c.first_window-w.ensures in
-    (
+    let window = c.first_window-w.ensures in (
       rw c.first_state-s.ensures c.requires.followable,
       (rw window (omega arith, omega arith), (rw window (omega arith), (refl, (refl, (refl, (refl, refl)))))),
     )
@@ -25,8 +24,7 @@ returns-in-Damaged g c = rw c.in-Damaged.is at c.take_turn-turn.ensures
 
 pub loop-turns-preserved : goal.loop-turns-preserved
 loop-turns-preserved g c =
-    let next = rw c.in-On.is at c.take_turn-turn.ensures in
-    (
+    let next = rw c.in-On.is at c.take_turn-turn.ensures in (
       next.0,
       ((next.1.0.0, omega arith), (omega arith, (omega arith, (omega arith, (omega arith, (omega arith, omega arith)))))),
     )
