@@ -1,5 +1,7 @@
 // The book: one entry for a record with any values, one for bytes at a place, and a run over a whole file (document 01, 'Event records'
 // and 'Refusal numbers'). The caller lends the memory: COUNTS numbers and MONEY amounts.
+#![tactic(auto)]
+
 mod bytes;
 mod calls;
 

@@ -1,4 +1,6 @@
 // The close of a day (document 01, 'Close').
+#![tactic(auto)]
+
 mod bookings;
 mod outcomes;
 mod renewals;

@@ -1,4 +1,6 @@
 // Trades: what one is refused for, and what an accepted one changes (document 01, 'Trade').
+#![tactic(auto)]
+
 mod parties;
 mod sides;
 mod trades;

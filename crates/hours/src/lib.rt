@@ -1,4 +1,6 @@
 // When trades and quotes are allowed. What both find in the memory and write into it stands in specs/.
+#![tactic(auto)]
+
 ghost use Rattle.std.specs.Prelude.{◌≡◌, ◌||◌, eqb};
 ghost use Rattle.model.specs.Refusals.{in_hours};
 

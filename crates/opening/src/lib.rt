@@ -1,4 +1,6 @@
 // The open of a day: the day is tested, and its codes are listed in the place of those listed so far (document 01, 'The day').
+#![tactic(auto)]
+
 ghost use Rattle.std.specs.Prelude.{◌≡◌};
 ghost use Rattle.model.specs.Calls.{opening as opening_call};
 ghost use Rattle.standing.specs.Made.{Sound, Answered};

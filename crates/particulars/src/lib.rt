@@ -1,5 +1,7 @@
 // What a desk is told besides its bill: how the contracts stood before a close and what was carried into the day, the parts of its
 // requirement, and the totals that a trade would give it (document 01, 'Trade' and 'Close').
+#![tactic(auto)]
+
 mod carried;
 mod proposed;
 mod required;

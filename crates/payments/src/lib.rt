@@ -1,5 +1,7 @@
 // Calls that name one account and move its money: pay in, pay out and release (document 01, 'The day'). Each answers the number of
 // its refusal, 0 where it is accepted.
+#![tactic(auto)]
+
 ghost use Rattle.std.specs.Prelude.{◌≡◌, ◌<◌, ◌≤◌, pos};
 ghost use Rattle.whole.specs.Amounts.{Amount};
 ghost use Rattle.funds.specs.Bounds as bounds;

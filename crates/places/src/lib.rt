@@ -1,4 +1,6 @@
 // The account that a call names.
+#![tactic(auto)]
+
 ghost use Rattle.std.specs.Prelude.{◌≡◌, ◌≤◌, length};
 ghost use Rattle.memory.specs.Layout.{counts_long, header_at};
 ghost use Rattle.places.specs.Places.{place_in};

@@ -1,4 +1,6 @@
 // Quotes: what one is refused for, and what an accepted one changes (document 01, 'Settlement rate').
+#![tactic(auto)]
+
 ghost use Rattle.std.specs.Prelude.{◌≡◌, ◌<◌, length};
 ghost use Rattle.model.specs.Calls.{quote as quote_call};
 ghost use Rattle.model.specs.Ranged.{GoodQuote};

@@ -1,5 +1,7 @@
 // What the book shows until the next close: the last close's rate, rule and count by code; variation, due, requirement and free by
 // account number; the day and the house (document 01, 'A printed day'). Codes and account numbers are gone through from the lowest on.
+#![tactic(auto)]
+
 mod account_lines;
 mod order;
 mod rate_lines;

@@ -1,5 +1,7 @@
 // Calls that walk every member: settle and refresh (document 01, 'Settle' and 'Refresh'). Each answers the number of its refusal,
 // 0 where it is accepted.
+#![tactic(auto)]
+
 ghost use Rattle.std.specs.Prelude.{◌≡◌};
 ghost use Rattle.model.specs.Calls.{settle as settle_call, refresh as refresh_call};
 ghost use Rattle.model.specs.Effects.{after};

@@ -1,4 +1,6 @@
 // A desk's table: the account's trades of the day as it sees them, row by row in two lent arrays, and what they earn at a settlement rate.
+#![tactic(auto)]
+
 ghost use Rattle.std.specs.Prelude.{◌≡◌, ◌+◌, ◌*◌, ◌≤◌, length};
 ghost use Rattle.whole.specs.Within.{Within};
 ghost use Rattle.lists.specs.All.{All};

@@ -10,11 +10,11 @@ returns-then-not-allowed c = rw (not-true c.args.allowed c.if-not-allowed.true-r
 pub returns-in_default : goal.returns-in_default
 returns-in_default c =
     let allowed : c.args.allowed ≡ true =
-        not-false c.args.allowed c.if-not-allowed.false-raw in
+    not-false c.args.allowed c.if-not-allowed.false-raw in
     rw (allowed, sym c.find_account.ensures ∙ c.in_default.is)
 
 pub returns : goal.returns
 returns c =
     let allowed : c.args.allowed ≡ true =
-        not-false c.args.allowed c.if-not-allowed.false-raw in
+    not-false c.args.allowed c.if-not-allowed.false-raw in
     rw (allowed, sym c.find_account.ensures ∙ c.in-At.is)

@@ -23,10 +23,13 @@ use Rattle.settling.proofs.refresh_members.Invariants.{change}
 module _ (s : Start) where
   abbrev book : Book
   book = view s.args.counts.now s.args.money.now
+
   is-kept : Kept book
   is-kept = sound-kept s.requires.0
+
   many : s.args.h.members ≡ length book.accounts.members
   many = ap (λ (x : Header). x.members) (s.requires.1 ∙ sound-header s.requires.0)
+
   rate : s.args.h.reference ≡ book.settings.reference
   rate = ap (λ (x : Header). x.reference) (s.requires.1 ∙ sound-header s.requires.0)
 
@@ -64,8 +67,7 @@ overflow_add-i c = omega (arith, small (goal.at.overflow_add-i c).In-loop-i)
 
 pub loop-i-preserved : goal.loop-i-preserved
 loop-i-preserved c =
-    let l = c.loop-i in
-    (
+    let l = c.loop-i in (
       omega arith,
       walk_step (rows_of (book (goal.at.loop-i-preserved c).Start)) (rows-shaped (is-kept (goal.at.loop-i-preserved c).Start)) (change (book (goal.at.loop-i-preserved c).Start)) (refreshed-six _) l.i l.invariant.1 (small (goal.at.loop-i-preserved c).In-loop-i)
           (c.refresh_account-b.ensures ∙ ap₂ refreshed (rate (goal.at.loop-i-preserved c).Start) c.load_account-a.ensures)

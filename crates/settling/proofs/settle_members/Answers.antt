@@ -27,8 +27,10 @@ use Rattle.settling.proofs.settle_members.Goals.{After-struct_told-1, At-loop-i,
 module _ (s : Start) where
   abbrev book : Book
   book = view s.args.counts.now s.args.money.now
+
   is-kept : Kept book
   is-kept = sound-kept s.requires.0
+
   many : s.args.h.members ≡ length book.accounts.members
   many = ap (λ (x : Header). x.members) (s.requires.1 ∙ sound-header s.requires.0)
 
@@ -47,12 +49,11 @@ pub load_house-house-requires : goal.load_house-house-requires
 load_house-house-requires c = (sound-long c.requires.0).money
 
 pub loop-i-init : goal.loop-i-init
-loop-i-init c =
-    (
-      omega arith,
-      walk_start settled_row (sound-holds c.requires.0),
-      told c.load_house-house.result c.load_house-house.type_inv ∙ c.load_house-house.ensures ∙ sound-house c.requires.0 ∙ sym (house-start (book (goal.at.loop-i-init c).Start)),
-    )
+loop-i-init c = (
+  omega arith,
+  walk_start settled_row (sound-holds c.requires.0),
+  told c.load_house-house.result c.load_house-house.type_inv ∙ c.load_house-house.ensures ∙ sound-house c.requires.0 ∙ sym (house-start (book (goal.at.loop-i-init c).Start)),
+)
 
 pub load_account-a-requires : goal.load_account-a-requires
 load_account-a-requires c = (long (goal.at.load_account-a-requires c).At-loop-i, small c)
@@ -67,12 +68,16 @@ settled-s-requires c =
 module _ (c : After-struct_told-1) where
   abbrev turn : In-loop-i
   turn = (goal.at.After-struct_told-1 c).In-loop-i
+
   abbrev start : Start
   start = (goal.at.After-struct_told-1 c).Start
+
   abbrev place : ℕ
   place = turn.loop-i.i
+
   abbrev answer : Settlement
   answer = c.settled-s.result
+
   paid-is : to_z w64 (of_z w64 answer.paid) ≡ paid_to (book start) (get_or (book start).accounts.members place 0)
   paid-is =
       told answer.paid c.struct_told-1.given.1.1.0.1
@@ -80,8 +85,10 @@ module _ (c : After-struct_told-1) where
       ∙ ap (λ (a : Account). (settled a.funds).paid)
       (c.load_account-a.ensures
       ∙ walk-member (is-kept start) settled_row settled-six place turn.loop-i.invariant.1 (below turn))
+
   house-is : to_z w64 turn.loop-i.house-bits -ℤ to_z w64 (of_z w64 answer.paid) ≡ house_after (book start) (place + 1)
   house-is = ap₂ ◌-ℤ◌ turn.loop-i.invariant.2 paid-is ∙ house-step (book start) place (below turn)
+
   house-fits : SFits w64 (house_after (book start) (place + 1))
   house-fits = fits64 (house-within (is-kept start) (place + 1)) tt
 

@@ -36,7 +36,6 @@ less : (s : Start) → Reads 1000 (to_z w64 (of_z w64 (pos 0 -ℤ to_z w64 s.arg
 less s = record {
   eq = (kept (sub (now (lit (pos 0))) (lots s)) tt).eq ∙ +ℤ_idl (neg_ℤ (pos s.args.t.lots));
   within = within-neg (lots s).within;
-
 }
 
 rate : (s : Start) → Reads 100000 (to_z w64 (of_z w64 s.args.t.rate)) s.args.t.rate

@@ -28,11 +28,10 @@ row_is c =
     ∙ ap₂ (λ (x : Contract) rate. with_trade x.tally t.time (weighted t.lots rate)) loaded (arg (start c).requires.range.rate tt).eq)
 
 pub with_trade-x-requires : goal.with_trade-x-requires
-with_trade-x-requires c =
-    (
-      subst (λ (x : Contract). Sound x.tally) (sym c.load_contract-x.ensures) c.requires.tally,
-      record { weight = c.requires.range.most; rate = passed (arg c.requires.range.rate tt) },
-    )
+with_trade-x-requires c = (
+  subst (λ (x : Contract). Sound x.tally) (sym c.load_contract-x.ensures) c.requires.tally,
+  record { weight = c.requires.range.most; rate = passed (arg c.requires.range.rate tt) },
+)
 
 pub returns : goal.returns
 returns c =

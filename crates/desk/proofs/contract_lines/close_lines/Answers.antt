@@ -8,5 +8,4 @@ each_line-lines-requires c = let j = c.requires.just in record { sound = (closed
 pub returns : goal.returns
 returns c = record {
   explains = λ n h e final j. rw c.columns.ensures (lines-explained j c.each_line-lines.ensures);
-
 }

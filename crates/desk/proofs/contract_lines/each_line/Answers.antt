@@ -27,8 +27,8 @@ line_of-line-requires c =
       );
       within = (pass (b.nets l.k q) tt tt, (pass (b.previous l.k q) tt tt, b.rates l.k q));
       table =
-        lined-table (view c.args.counts.now c.args.money.now) c.args.labels.now c.args.amounts.now c.args.used c.args.before
-            l.invariant.0 c.requires.table;
+          lined-table (view c.args.counts.now c.args.money.now) c.args.labels.now c.args.amounts.now c.args.used c.args.before
+          l.invariant.0 c.requires.table;
     }
 
 pub loop-k-preserved : goal.loop-k-preserved

@@ -23,11 +23,10 @@ total : (s : Start) → to_z w64 (of_z w64 s.args.a.holdings.dayend) ≡ s.args.
 total s = (arg (amount-within s.requires.total) tt).eq
 
 pub over_limit-over-requires : goal.over_limit-over-requires
-over_limit-over-requires c =
-    (
-      subst (Amount 12000000000000) (sym (total (goal.at.over_limit-over-requires c).Start)) c.requires.total,
-      (subst (Amount 100000000000000) (sym (least (goal.at.over_limit-over-requires c).After-basis-least)) (basis-amount c.requires.limits c.requires.rate), c.requires.most),
-    )
+over_limit-over-requires c = (
+  subst (Amount 12000000000000) (sym (total (goal.at.over_limit-over-requires c).Start)) c.requires.total,
+  (subst (Amount 100000000000000) (sym (least (goal.at.over_limit-over-requires c).After-basis-least)) (basis-amount c.requires.limits c.requires.rate), c.requires.most),
+)
 
 over : (c : After-over_limit-over)
     → to_z w64 (of_z w64 c.over_limit-over.result) ≡ over_limit c.args.a.holdings.dayend (basis_at (goal.at.After-over_limit-over c).Start) c.args.multiplier
