@@ -46,14 +46,14 @@ UNFOLDED = '''
     answer look walk
 '''
 # The same for whether a calendar is accepted, and for a listing: they are computed on their own.
-UNFOLDED_FOR_START = 'isWorking is_exception is_weekend first_working noLongBreak'
+UNFOLDED_FOR_START = 'is_working is_exception is_weekend first_working no_long_break'
 UNFOLDED_FOR_LISTING = '''
     is_working is_exception is_weekend first_working code_of month_length first_day third_wednesday settlement_day considered
     chosen_after
 '''
 RULES = {'1': 'LastHour', '2': 'LastFive', '3': 'Quotes', '4': 'Previous', '5': 'Final'}
 # Where the book stands after a call of these kinds.
-POINTS = {START: 'unopened', OPEN: 'unsettled', SETTLE: 'settledToday', CLOSE: 'ended'}
+POINTS = {START: 'unopened', OPEN: 'unsettled', SETTLE: 'settled_today', CLOSE: 'ended'}
 
 
 # ---- terms of specs
@@ -82,27 +82,27 @@ def mean(weighted):
 # A tally has the last five trades, with weights of 0 where there are none.
 def tally(day):
     if not day.events:
-        return 'noTally'
+        return 'no_tally'
     trades, late = day.trades(), [trade for trade in day.trades() if in_last_hour(trade)]
     latest = [f'weighted {lots} {whole(rate)}' for lots, rate in (5 * [(0, 0)] + [(t.lots, t.rate) for t in trades])[-5:]]
     quotes = [mean([(1, quote.rate) for quote in day.counted(side)]) for side in (BID, OFFER)]
-    return applied('aTally', len(trades), listed(latest), len(late), mean([(t.lots, t.rate) for t in late]), *quotes)
+    return applied('a_tally', len(trades), listed(latest), len(late), mean([(t.lots, t.rate) for t in late]), *quotes)
 
 
 def held(account):
     amounts = [account.core, account.special, account.total, account.variation]
-    return applied('aHeld', account.clearing, account.tolerance, *account.limits, *map(whole, amounts))
+    return applied('a_held', account.clearing, account.tolerance, *account.limits, *map(whole, amounts))
 
 
 def funds(account):
     amounts = [account.cash, account.margin, account.due, account.requirement, account.free]
-    return applied('aFunds', *map(whole, amounts), str(account.in_default).lower())
+    return applied('a_funds', *map(whole, amounts), str(account.in_default).lower())
 
 
 def position(account, code):
     cost = sum(deal.lots * deal.rate for deal in account.today if deal.contract == code)
     numbers = [account.before[code], account.nets[code], cost]
-    return applied('aPosition', *map(whole, numbers)) if any(numbers) else 'flat'
+    return applied('a_position', *map(whole, numbers)) if any(numbers) else 'flat'
 
 
 # A line of the output as a term.
@@ -158,13 +158,13 @@ class State:
         clock, trades = max((event.time for event in events), default=0), sum(isinstance(event, Trade) for event in events)
         results = [line.split()[1:] for line in self.rate_lines]
         return f'''record {{
-  settings = {applied('aSettings', *book.house, self.exceptions())};
-  today = {applied('aToday', self.point, self.day, clock, trades)};
+  settings = {applied('a_settings', *book.house, self.exceptions())};
+  today = {applied('a_today', self.point, self.day, clock, trades)};
   codes = {listed(days)};
-  terms = {listed(applied('aTerms', whole(book.listed.previous[code]), book.margins[code]) for code in days)};
+  terms = {listed(applied('a_terms', whole(book.listed.previous[code]), book.margins[code]) for code in days)};
   tallies = {column(map(tally, days.values()))};
   settled_codes = {listed(code for code, *_ in results)};
-  settled = {listed(applied('aSettled', whole(int(rate)), RULES[rule], used) for _, rate, rule, used in results)};
+  settled = {listed(applied('a_settled', whole(int(rate)), RULES[rule], used) for _, rate, rule, used in results)};
   members = {listed(book.accounts)};
   held = {column(map(held, accounts))};
   funds = {column(map(funds, accounts))};
