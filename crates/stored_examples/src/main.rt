@@ -20,13 +20,7 @@ use std::io::{self, Write};
 use std::rt::Files;
 
 // Packs the text of one file into another. What is wrong with a line is said among the errors.
-fn pack_file<R: Files, E: Write>(
-    rt: &R,
-    errors: &mut E,
-    name: &[u8],
-    text: &[u8],
-    events: &[u8],
-) {
+fn pack_file<R: Files, E: Write>(rt: &R, errors: &mut E, name: &[u8], text: &[u8], events: &[u8]) {
     let mut input = open(rt, name, text);
     let mut output = start(rt, name, events);
     let _packed = pack(&mut input, &mut output, errors);
