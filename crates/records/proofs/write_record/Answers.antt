@@ -17,6 +17,7 @@ use Rattle.records.specs.Records.{entry, writing}
 use Rattle.records.specs.Writing.{out}
 use Rattle.records.specs.WritingLaws.{size-record, size-short, all-put, not-shaped, no_room, done}
 use Rattle.records.proofs.write_record.Goals as goal
+use Rattle.records.proofs.write_record.Goals.{In-Of}
 
 -- What is known of a row that has the format's shape, and of how many fields its kind has.
 record Row (kind n : ℕ) (cells exceptions : List ℕ) : Type 0 where
@@ -24,21 +25,28 @@ record Row (kind n : ℕ) (cells exceptions : List ℕ) : Type 0 where
   fields : n ≡ count kind
   thirteen : length cells ≡ 13
 
-module _ (kind n : ℕ) (cells exceptions : List ℕ) (known : Row kind n cells exceptions) where
+module _ (kind n : ℕ) (cells exceptions : List ℕ) (row : Row kind n cells exceptions) where
   within : n ≤ length cells
-  within = omega (arith, known.fields, counts-most kind, known.thirteen)
+  within = omega (arith, row.fields, counts-most kind, row.thirteen)
 
   own-long : length (take n cells) ≡ n
   own-long = length-take-le n cells within
 
   own-short : length (take n cells) ≤ 13
-  own-short = omega (arith, own-long, known.fields, counts-most kind)
+  own-short = omega (arith, own-long, row.fields, counts-most kind)
 
   few : length exceptions ≤ 400
-  few = let s = shape-tells kind cells (length exceptions) known.shape in omega (arith, s.few, s.there)
+  few = let s = shape-tells kind cells (length exceptions) row.shape in omega (arith, s.few, s.there)
 
   short : length (encode kind) + length (write_of (take n cells)) + length (write_of exceptions) ≤ 4140
   short = size-short kind (take n cells) exceptions own-short few
+
+known : (c : In-Of) → Row c.args.kind c.in-Of.n c.args.fields c.args.exceptions.now
+known c = record {
+  shape = sym c.is_shaped.ensures ∙ not-false _ c.if-not-is_shaped.false-raw;
+  fields = (counted c.args.kind c.in-Of.n (sym c.count_of.ensures ∙ c.in-Of.is)).1;
+  thirteen = search rules;
+}
 
 pub returns-then-not-is_shaped : goal.returns-then-not-is_shaped
 returns-then-not-is_shaped c =
@@ -55,23 +63,23 @@ returns-in_default c =
 
 pub slice_bounds-fields-end : goal.slice_bounds-fields-end
 slice_bounds-fields-end c =
-    let known : Row c.args.kind c.in-Of.n c.args.fields c.args.exceptions.now = record { shape = sym c.is_shaped.ensures ∙ not-false _ c.if-not-is_shaped.false-raw; fields = (counted c.args.kind c.in-Of.n (sym c.count_of.ensures ∙ c.in-Of.is)).1; thirteen = search rules } in
-    within _ _ _ _ known
+    let row = known (goal.at.slice_bounds-fields-end c).In-Of in
+    within _ _ _ _ row
 
 pub slice_bounds-numbers_size-end : goal.slice_bounds-numbers_size-end
 slice_bounds-numbers_size-end c =
-    let known : Row c.args.kind c.in-Of.n c.args.fields c.args.exceptions.now = record { shape = sym c.is_shaped.ensures ∙ not-false _ c.if-not-is_shaped.false-raw; fields = (counted c.args.kind c.in-Of.n (sym c.count_of.ensures ∙ c.in-Of.is)).1; thirteen = search rules } in
-    sym (own-long _ _ _ _ known)
+    let row = known (goal.at.slice_bounds-numbers_size-end c).In-Of in
+    sym (own-long _ _ _ _ row)
 
 pub overflow_add-size : goal.overflow_add-size
 overflow_add-size c =
-    let known : Row c.args.kind c.in-Of.n c.args.fields c.args.exceptions.now = record { shape = sym c.is_shaped.ensures ∙ not-false _ c.if-not-is_shaped.false-raw; fields = (counted c.args.kind c.in-Of.n (sym c.count_of.ensures ∙ c.in-Of.is)).1; thirteen = search rules } in
-    omega (arith, c.number_size.ensures, c.numbers_size.ensures, short _ _ _ _ known)
+    let row = known (goal.at.overflow_add-size c).In-Of in
+    omega (arith, c.number_size.ensures, c.numbers_size.ensures, short _ _ _ _ row)
 
 pub overflow_add-size-2 : goal.overflow_add-size-2
 overflow_add-size-2 c =
-    let known : Row c.args.kind c.in-Of.n c.args.fields c.args.exceptions.now = record { shape = sym c.is_shaped.ensures ∙ not-false _ c.if-not-is_shaped.false-raw; fields = (counted c.args.kind c.in-Of.n (sym c.count_of.ensures ∙ c.in-Of.is)).1; thirteen = search rules } in
-    omega (arith, c.number_size.ensures, c.numbers_size.ensures, c.numbers_size-2.ensures, short _ _ _ _ known)
+    let row = known (goal.at.overflow_add-size-2 c).In-Of in
+    omega (arith, c.number_size.ensures, c.numbers_size.ensures, c.numbers_size-2.ensures, short _ _ _ _ row)
 
 pub returns-then-room-size : goal.returns-then-room-size
 returns-then-room-size c =
@@ -81,20 +89,20 @@ returns-then-room-size c =
     let cells = c.args.fields in
     let exceptions = c.args.exceptions.now in
     let bytes = writing (entry kind (take n cells) exceptions) in
-    let known : Row kind n cells exceptions = record { shape = sym c.is_shaped.ensures ∙ not-false _ c.if-not-is_shaped.false-raw; fields = (counted c.args.kind c.in-Of.n (sym c.count_of.ensures ∙ c.in-Of.is)).1; thirteen = search rules } in
+    let row = known (goal.at.returns-then-room-size c).In-Of in
     let sizes : c.number_size.result + c.numbers_size.result + c.numbers_size-2.result ≡ length bytes =
     omega (arith, size-record kind (take n cells) exceptions, c.number_size.ensures, c.numbers_size.ensures, c.numbers_size-2.ensures) in
-    sym (no_room room kind cells exceptions known.shape n known.fields (subst (λ z. length room < z) sizes c.if-room-size.true))
+    sym (no_room room kind cells exceptions row.shape n row.fields (subst (λ z. length room < z) sizes c.if-room-size.true))
 
 pub slice_bounds-fields-end-2 : goal.slice_bounds-fields-end-2
 slice_bounds-fields-end-2 c =
-    let known : Row c.args.kind c.in-Of.n c.args.fields c.args.exceptions.now = record { shape = sym c.is_shaped.ensures ∙ not-false _ c.if-not-is_shaped.false-raw; fields = (counted c.args.kind c.in-Of.n (sym c.count_of.ensures ∙ c.in-Of.is)).1; thirteen = search rules } in
-    within _ _ _ _ known
+    let row = known (goal.at.slice_bounds-fields-end-2 c).In-Of in
+    within _ _ _ _ row
 
 pub slice_bounds-write_numbers-end : goal.slice_bounds-write_numbers-end
 slice_bounds-write_numbers-end c =
-    let known : Row c.args.kind c.in-Of.n c.args.fields c.args.exceptions.now = record { shape = sym c.is_shaped.ensures ∙ not-false _ c.if-not-is_shaped.false-raw; fields = (counted c.args.kind c.in-Of.n (sym c.count_of.ensures ∙ c.in-Of.is)).1; thirteen = search rules } in
-    sym (own-long _ _ _ _ known)
+    let row = known (goal.at.slice_bounds-write_numbers-end c).In-Of in
+    sym (own-long _ _ _ _ row)
 
 pub returns : goal.returns
 returns c =
@@ -104,7 +112,7 @@ returns c =
     let cells = c.args.fields in
     let exceptions = c.args.exceptions.now in
     let bytes = writing (entry kind (take n cells) exceptions) in
-    let known : Row kind n cells exceptions = record { shape = sym c.is_shaped.ensures ∙ not-false _ c.if-not-is_shaped.false-raw; fields = (counted c.args.kind c.in-Of.n (sym c.count_of.ensures ∙ c.in-Of.is)).1; thirteen = search rules } in
+    let row = known (goal.at.returns c).In-Of in
     let size = size-record kind (take n cells) exceptions in
     let sizes : c.number_size.result + c.numbers_size.result + c.numbers_size-2.result ≡ length bytes =
     omega (arith, size, c.number_size.ensures, c.numbers_size.ensures, c.numbers_size-2.ensures) in
@@ -115,4 +123,4 @@ returns c =
     let i : z.result ≡ length bytes = omega (arith, z.ensures.0, y.ensures.0, x.ensures.0) in
     ap₂ (λ (k : ℕ) (r : List ℕ). out (Done k) r) i
     (all-put room _ _ _ kind (take n cells) exceptions _ _ (omega arith) x.ensures.0 y.ensures.0 x.ensures.1 y.ensures.1 z.ensures.1)
-    ∙ sym (done room kind cells exceptions known.shape n known.fields h)
+    ∙ sym (done room kind cells exceptions row.shape n row.fields h)

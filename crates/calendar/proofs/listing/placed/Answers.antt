@@ -1,20 +1,14 @@
 -- The flag is the conjunction, by whichever arm it came.
 use mathlib.Core.Path.{◌≡◌, ◌∙◌}
-use mathlib.Core.Bool.{Bool, true, false, ◌&&◌}
-use mathlib.Core.Logic.{◌⊎◌, inl, inr}
+use mathlib.Core.Bool.{◌&&◌}
 use Rattle.calendar.proofs.listing.placed.Goals as goal
-use Rattle.calendar.proofs.listing.placed.Goals.{then-c, else-c}
+use Rattle.calendar.proofs.listing.placed.Goals.{Joined-c, then-c, else-c}
 
-all_known : (before known all : Bool) → ((before ≡ true) × (all ≡ known)) ⊎ ((before ≡ false) × (all ≡ false)) → all ≡ before && known
-all_known before known all (inl x) = x.1 ∙ rw x.0
-all_known before known all (inr x) = x.1 ∙ rw x.0
+all_known : (c : Joined-c) → c.if-c.all ≡ c.args.c.known && c.args.known
+all_known c = elim c.if-c.branch [ then-c w ↦ w.all-is ∙ rw w.if-c.true | else-c w ↦ w.all-is ∙ rw w.if-c.false ]
 
 pub returns-then-quarterly : goal.returns-then-quarterly
-returns-then-quarterly c =
-    let flag = all_known c.args.c.known c.args.known c.if-c.all (elim c.if-c.branch [ then-c w ↦ inl (w.if-c.true, w.all-is) | else-c w ↦ inr (w.if-c.false, w.all-is) ]) in
-    rw (flag, c.if-quarterly.true)
+returns-then-quarterly c = rw (all_known (goal.at.returns-then-quarterly c).Joined-c, c.if-quarterly.true)
 
 pub returns-else-quarterly : goal.returns-else-quarterly
-returns-else-quarterly c =
-    let flag = all_known c.args.c.known c.args.known c.if-c.all (elim c.if-c.branch [ then-c w ↦ inl (w.if-c.true, w.all-is) | else-c w ↦ inr (w.if-c.false, w.all-is) ]) in
-    rw (flag, c.if-quarterly.false)
+returns-else-quarterly c = rw (all_known (goal.at.returns-else-quarterly c).Joined-c, c.if-quarterly.false)
