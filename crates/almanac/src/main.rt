@@ -4,34 +4,26 @@
 
 mod printing;
 mod reading;
-mod text;
 
-use reading::Days;
-use std::io::Write;
+use std::alloc::Global;
+use std::io::{self, Write};
 use window::read_full;
 
 // Prints each list of the input, up to the first line that is no list or the first write that fails.
-fn print_lists<W: Write>(output: &mut W, input: &[u8]) {
-    let mut at: usize = 0;
-    let mut k: u64 = 1;
-    while at < input.len() {
-        let end = scan::line_end(input, at);
-        let mut days = [0u64; 400];
-        let Days::Kept(count) = reading::read_days(&input[at..end], &mut days) else {
-            printing::print_bad_input(output);
-            return;
+fn print_lists<W: Write>(alloc: Global, output: &mut W, input: &[u8]) -> io::Result<()> {
+    for (i, ended) in input.split_inclusive(|byte| *byte == b'\n').enumerate() {
+        let line = ended.strip_suffix(b"\n").unwrap_or(ended);
+        let Some(days) = reading::read_days(alloc, line)? else {
+            return output.write_all(b"bad input\n");
         };
-        if !printing::print_list(output, k, &days, count) {
-            return;
-        }
-        at = end + 1;
-        k += 1;
+        printing::print_list(alloc, output, i as u64 + 1, days.as_slice())?;
     }
+    Ok(())
 }
 
 // Reads the whole input, at most 65,536 bytes, and prints its lists.
 fn main(rt: HostRuntime) {
     let mut input = [0u8; 65536];
     let n = read_full(&mut rt.stdin(), &mut input);
-    print_lists(&mut rt.stdout(), &input[..n]);
+    let _ = print_lists(rt.alloc(), &mut rt.stdout(), &input[..n]);
 }

@@ -1,117 +1,113 @@
-// Printing: what the calendar makes of one list of exceptions. Each line is gathered first and written with one call,
-// and each function answers whether all was written.
-ghost use Rattle.std.specs.Prelude.{◌≡◌, true, ◌≤◌, ◌<◌};
+// Printing: what the calendar makes of one list of exceptions. Each line is gathered first and written with one call.
+ghost use Rattle.std.specs.Prelude.{◌≡◌, true};
 ghost use Rattle.days.specs.Days.{rising};
 
-use crate::text::{put_day, put_field, put_listing, put_word, write_line};
 use months::Month;
-use std::io::Write;
+use std::alloc::{AllocError, Global};
+use std::io::{self, Write};
 
-// The line that a list begins with.
-fn print_heading<W: Write>(output: &mut W, k: u64) -> bool {
-    let mut line = [0u8; 256];
-    let named = put_word(&mut line, 0, b"list");
-    let numbered = put_field(&mut line, named, k);
-    let end = put_word(&mut line, numbered, b"\n");
-    write_line(output, &line, end)
+// Adds a space and a day, or a dash for none.
+fn push_day(line: &mut String, day: Option<u64>) -> Result<(), AllocError> {
+    match day {
+        Some(t) => write!(line, " {t}"),
+        None => line.push_str(" -"),
+    }
+}
+
+// Adds what is listed, each code after a space, or a dash if a listed month's settlement day is not in the calendar.
+fn push_listing(line: &mut String, listing: Option<[u64; 6]>) -> Result<(), AllocError> {
+    let Some(codes) = listing else {
+        return line.push_str(" -");
+    };
+    for code in codes {
+        write!(line, " {code}")?;
+    }
+    Ok(())
 }
 
 // A month's code, its settlement day and its last trading day.
-fn print_month<W: Write>(output: &mut W, exceptions: &[u64], month: Month) -> bool
+fn print_month<W: Write>(
+    alloc: Global,
+    output: &mut W,
+    exceptions: &[u64],
+    month: Month,
+) -> io::Result<()>
     requires { rising exceptions.now ≡ true }
 {
     let code = month.code();
-    let mut line = [0u8; 256];
-    let named = put_word(&mut line, 0, b"month");
-    let coded = put_field(&mut line, named, code);
-    let settled = put_day(&mut line, coded, calendar::settlement_of(exceptions, code));
-    let traded = put_day(
-        &mut line,
-        settled,
-        calendar::last_trading_of(exceptions, code),
-    );
-    let end = put_word(&mut line, traded, b"\n");
-    write_line(output, &line, end)
-}
-
-// The months from the one before the calendar's first to the one after its last.
-fn print_months<W: Write>(output: &mut W, exceptions: &[u64]) -> bool
-    requires { rising exceptions.now ≡ true }
-{
-    let mut number = Month::FIRST - 1;
-    while number <= Month::LAST + 1 {
-        if !print_month(output, exceptions, Month { number }) {
-            return false;
-        }
-        number += 1;
-    }
-    true
+    let mut line = format!(in alloc; "month {code}")?;
+    push_day(&mut line, calendar::settlement_of(exceptions, code))?;
+    push_day(&mut line, calendar::last_trading_of(exceptions, code))?;
+    line.push('\n')?;
+    output.write_all(line.as_bytes())
 }
 
 // What is listed on a day.
-fn print_listing<W: Write>(output: &mut W, exceptions: &[u64], t: u64) -> bool
+fn print_listing<W: Write>(
+    alloc: Global,
+    output: &mut W,
+    exceptions: &[u64],
+    t: u64,
+) -> io::Result<()>
     requires { rising exceptions.now ≡ true }
 {
-    let mut line = [0u8; 256];
-    let named = put_word(&mut line, 0, b"listed");
-    let dated = put_field(&mut line, named, t);
-    let listed = put_listing(&mut line, dated, calendar::listed_on(exceptions, t));
-    let end = put_word(&mut line, listed, b"\n");
-    write_line(output, &line, end)
+    let mut line = format!(in alloc; "listed {t}")?;
+    push_listing(&mut line, calendar::listed_on(exceptions, t))?;
+    line.push('\n')?;
+    output.write_all(line.as_bytes())
+}
+
+// The months from the one before the calendar's first to the one after its last.
+fn print_months<W: Write>(alloc: Global, output: &mut W, exceptions: &[u64]) -> io::Result<()>
+    requires { rising exceptions.now ≡ true }
+{
+    for number in Month::FIRST - 1..=Month::LAST + 1 {
+        print_month(alloc, output, exceptions, Month { number })?;
+    }
+    Ok(())
 }
 
 // What is listed on each working day from one day to another.
-fn print_listings<W: Write>(output: &mut W, exceptions: &[u64], first: u64, last: u64) -> bool
-    requires { (rising exceptions.now ≡ true) × (last < 3653) }
+fn print_listings<W: Write>(
+    alloc: Global,
+    output: &mut W,
+    exceptions: &[u64],
+    first: u64,
+    last: u64,
+) -> io::Result<()>
+    requires { rising exceptions.now ≡ true }
 {
-    let mut t = first;
-    while t <= last {
+    for t in first..=last {
         if days::is_working(exceptions, t) {
-            if !print_listing(output, exceptions, t) {
-                return false;
-            }
+            print_listing(alloc, output, exceptions, t)?;
         }
-        t += 1;
     }
-    true
+    Ok(())
 }
 
 // An accepted calendar: its months, and what is listed in the years 2023 and 2029.
-fn print_accepted<W: Write>(output: &mut W, exceptions: &[u64]) -> bool
+fn print_accepted<W: Write>(alloc: Global, output: &mut W, exceptions: &[u64]) -> io::Result<()>
     requires { rising exceptions.now ≡ true }
 {
-    if !print_months(output, exceptions) {
-        return false;
-    }
-    if !print_listings(output, exceptions, 1096, 1460) {
-        return false;
-    }
-    print_listings(output, exceptions, 3288, 3652)
+    print_months(alloc, output, exceptions)?;
+    print_listings(alloc, output, exceptions, 1096, 1460)?;
+    print_listings(alloc, output, exceptions, 3288, 3652)
 }
 
-// What is wrong with the exceptions, or what the calendar makes of them.
-fn print_almanac<W: Write>(output: &mut W, exceptions: &[u64]) -> bool {
+// The k-th list: its heading, and what is wrong with the exceptions, or what the calendar makes of them.
+pub(crate) fn print_list<W: Write>(
+    alloc: Global,
+    output: &mut W,
+    k: u64,
+    exceptions: &[u64],
+) -> io::Result<()> {
+    let heading = format!(in alloc; "list {k}\n")?;
+    output.write_all(heading.as_bytes())?;
     if !days::are_rising(exceptions) {
-        return output.write_all(b"not rising\n").is_ok();
+        return output.write_all(b"not rising\n");
     }
     if !days::is_accepted(exceptions) {
-        return output.write_all(b"refused\n").is_ok();
+        return output.write_all(b"refused\n");
     }
-    print_accepted(output, exceptions)
-}
-
-// The k-th list: its heading, and what becomes of the first `count` of the days lent.
-pub(crate) fn print_list<W: Write>(output: &mut W, k: u64, days: &[u64; 400], count: usize) -> bool
-    requires { count ≤ 400 }
-{
-    if !print_heading(output, k) {
-        return false;
-    }
-    let all: &[u64] = days;
-    print_almanac(output, &all[..count])
-}
-
-// What ends a run on a line that is no list.
-pub(crate) fn print_bad_input<W: Write>(output: &mut W) -> bool {
-    output.write_all(b"bad input\n").is_ok()
+    print_accepted(alloc, output, exceptions)
 }

@@ -1,5 +1,5 @@
 -- From the groups of calls to the book's one entry.
-use Rattle.std.specs.Prelude.{◌≡◌, List, ◌∷◌, ℕ, zero, suc, ℤ, pos, replicate}
+use Rattle.std.specs.Prelude.{◌≡◌, ⊤, List, ◌∷◌, ℕ, zero, suc, ℤ, pos, replicate, Result, Ok, Err}
 use Rattle.std.proofs.Math.Path.{refl, ap, subst}
 use Rattle.std.proofs.Common.{sym, ◌∙◌}
 use Rattle.records.specs.Records.{Entry}
@@ -19,11 +19,11 @@ use Rattle.standing.specs.Made.{Sound, decided, Made}
 use Rattle.standing.specs.Made as standing
 use Rattle.standing.specs.StandingLaws.{view-is, new-rows, sound-of, sound-kept, sound-holds}
 use Rattle.dealing.specs.declared.Dealt.{Dealt}
-use Rattle.dealing.specs.declared.Dealt.TheVariants as dealing
 use Rattle.dealing.specs.Dealing.{Traded, answer_of as trade_answer}
-use Rattle.opening.specs.declared.dates.Opened.{Opened}
-use Rattle.opening.specs.declared.dates.Opened.TheVariants as opens
+use Rattle.opening.specs.declared.dates.OpenError.{OpenError}
+use Rattle.opening.specs.declared.dates.OpenError.TheVariants as opens
 use Rattle.opening.specs.Opens.{answer_of as open_answer}
+use Rattle.refusals.specs.declared.Refusal.{Refusal}
 use Rattle.book.specs.declared.calls.Answer.{Answer}
 use Rattle.book.specs.declared.calls.Answer.TheVariants.{Refused}
 use Rattle.book.specs.Called.{answer_of, Called}
@@ -36,18 +36,14 @@ number-says : (b : Book) (c : Call) (a : Answer) → ((o : Opening) → c ≡ op
 number-says b c a other e zero q = e
 number-says b c a other e (suc n) q = sym (plainly b c other (suc n) q)
 
-pub number-refused : (a : Answer) (n : ℕ) → (n ≡ 0 → ⊥) → Refused n ≡ numbered a n
-number-refused a zero h = absurd (h refl)
-number-refused a (suc n) h = refl
+deal-says : (b : Book) (r : Result Dealt Refusal) → answer_of b (dealt r) ≡ trade_answer r
+deal-says b (Ok d) = refl
+deal-says b (Err refusal) = refl
 
-deal-says : (b : Book) (r : Dealt) → answer_of b (dealt r) ≡ trade_answer r
-deal-says b (dealing.Refused number) = refl
-deal-says b (dealing.Accepted buyer seller) = refl
-
-open-says : (b : Book) (r : Opened) → answer_of b (opened r) ≡ open_answer r
-open-says b opens.Done = refl
-open-says b (opens.Refused number) = refl
-open-says b (opens.NotNext day) = refl
+open-says : (b : Book) (r : Result ⊤ OpenError) → answer_of b (opened r) ≡ open_answer r
+open-says b (Ok done) = refl
+open-says b (Err (opens.Refused refusal)) = refl
+open-says b (Err (opens.NotNext day)) = refl
 
 module _ {counts counts' : List ℕ} {money money' : List ℤ} where
   pub made-answered : {c : Call} {number : ℕ} (a : Answer) → ((o : Opening) → c ≡ opening o → ⊥)
@@ -61,11 +57,11 @@ module _ {counts counts' : List ℕ} {money money' : List ℤ} where
         memory = subst (λ n. Holds counts' money' (rows_of (kept n b c))) m.answers m.memory;
       }
 
-  pub traded-dealt : {t : Trade} (r : Dealt) → Traded counts money t r counts' money'
+  pub traded-dealt : {t : Trade} (r : Result Dealt Refusal) → Traded counts money t r counts' money'
       → Answered counts money (trade t) (dealt r) counts' money'
   traded-dealt {t} r h = let b = view counts money in record { answers = deal-says (kept (decided b (trade t)) b (trade t)) r ∙ h.answers; memory = h.memory }
 
-  pub open-answered : {o : Opening} (r : Opened) → standing.Answered counts money (opening o) (open_answer r) counts' money'
+  pub open-answered : {o : Opening} (r : Result ⊤ OpenError) → standing.Answered counts money (opening o) (open_answer r) counts' money'
       → Answered counts money (opening o) (opened r) counts' money'
   open-answered {o} r h = let b = view counts money in record { answers = open-says (kept (decided b (opening o)) b (opening o)) r ∙ h.answers; memory = h.memory }
 

@@ -1,17 +1,16 @@
 -- What feeding and running rest on: the record that was read is called, and a file's records are called one after the other.
 use Rattle.std.proofs.Math.Path.{◌≡◌, refl, sym, ap, subst}
-use Rattle.std.proofs.Common.{ap₂, ◌∙◌, zero-le, drop_of_length-le, le-ltb}
+use Rattle.std.proofs.Common.{ap₂, ◌∙◌, zero-le, le-ltb}
 use mathlib.Core.List.{List, [], ◌∷◌, reverse, reverse_aux}
-use Rattle.std.specs.Prelude.{ℕ, ◌-◌, ◌≤◌, ◌<◌, ℤ}
+use Rattle.std.specs.Prelude.{ℕ, ◌-◌, ◌≤◌, ◌<◌, ℤ, Ok, Err}
 use native.Mathlib.Omega.{arith}
 use Rattle.std.proofs.Math.ListN.{length, drop}
 use Rattle.numbers.specs.Below.{Small}
-use Rattle.numbers.specs.Seven.{unbounded}
 use Rattle.decoding.specs.Place.{stored_from}
 use Rattle.decoding.specs.PlaceLaws.{end-here}
 use Rattle.fields.specs.Fields.{announced}
-use Rattle.records.specs.declared.Answer.TheVariants as records
-use Rattle.records.specs.declared.Reading.{Reading}
+use Rattle.records.specs.declared.Malformed.{Malformed}
+use Rattle.records.specs.declared.Record.{Record}
 use Rattle.records.specs.Records.{Entry, entry, Parsed, unread, parsed, reading}
 use Rattle.records.specs.RecordLaws.{reading-writing}
 use Rattle.records.specs.Reading.{placed, reading_at}
@@ -25,18 +24,15 @@ use Rattle.standing.specs.Standing.{rows_of, view}
 use Rattle.standing.specs.Made.{Sound}
 use Rattle.standing.specs.StandingLaws.{sound-of}
 use Rattle.book.specs.declared.calls.Answer.{Answer}
-use Rattle.book.specs.declared.bytes.Fed.TheVariants.{Next, Malformed}
+use Rattle.book.specs.declared.bytes.Fed.{Fed}
 use Rattle.book.specs.Called.{Called}
 use Rattle.book.specs.CalledLaws.{next-holds}
 use Rattle.book.specs.Padding.{same-called, same_answer}
-use Rattle.book.specs.Feeding.{FedBy, FedAt, ReadsTo, Ran}
+use Rattle.book.specs.Feeding.{on_to, bad_at, FedBy, FedAt, ReadsTo, Ran}
 
 -- ---- a record that was read
-pub read-stands : {s : List ℕ} {at next : ℕ} → Small s → (r : Reading) → r ≡ reading_at s at → r.answer ≡ records.Next next
-    → Stands s at next r.kind r.fields r.more
-read-stands {s} {at} {next} small r e q =
-    reads_on s at small next r.kind r.fields r.more
-    (sym e ∙ ap (λ a. record { answer = a; kind = r.kind; fields = r.fields; more = r.more }) q)
+pub read-stands : {s : List ℕ} {at : ℕ} → Small s → (r : Record) → Ok r ≡ reading_at s at → Stands s at r.next r.kind r.fields r.more
+read-stands {s} {at} small r e = reads_on s at small r.next r.kind r.fields r.more (sym e)
 
 module _ {s : List ℕ} {at next kind place : ℕ} {fields : List ℕ} (t : Stands s at next kind fields place) where
   announced-long : length t.exceptions ≡ announced kind fields
@@ -65,7 +61,7 @@ module _ {s : List ℕ} {at next kind place : ℕ} {fields : List ℕ} (t : Stan
     -- its exceptions were stored in room for as many
     pub fed-next : (room : List ℕ) → length room ≡ announced kind fields
         → Called counts money (entry kind fields (stored_from s place room).room) a counts' money'
-        → FedAt s at counts money (Next next a) counts' money'
+        → FedAt s at counts money (on_to next a) counts' money'
     fed-next room e h =
         let before = t.lies.before in
         let inside = t.lies.inside in
@@ -73,16 +69,16 @@ module _ {s : List ℕ} {at next kind place : ℕ} {fields : List ℕ} (t : Stan
         rw (le-ltb (length s) place (omega arith), e ∙ sym announced-long, t.lies.there) in
         let g = subst (λ x. Called counts money (entry kind fields x) a counts' money') stored h in
         record {
-          outcome = subst (λ p. FedBy p s at counts money (Next next a) counts' money') (sym reads-there)
-              (a, (ap (λ n. Next n a) (sym (end-here s next inside)), record-called g));
+          outcome = subst (λ p. FedBy p s at counts money (on_to next a) counts' money') (sym reads-there)
+              (a, (ap (λ n. on_to n a) (sym (end-here s next inside)), record-called g));
         }
 
-pub fed-none : (s : List ℕ) (at first : ℕ) (counts : List ℕ) (money : List ℤ) → (reading_at s at).answer ≡ records.Malformed first
-    → FedAt s at counts money (Malformed first) counts money
-fed-none s at first counts money e = record { outcome = go (reading (drop at s)) e }
+pub fed-none : (s : List ℕ) (at : ℕ) (bad : Malformed) (counts : List ℕ) (money : List ℤ) → Err bad ≡ reading_at s at
+    → FedAt s at counts money (Err bad) counts money
+fed-none s at bad counts money e = record { outcome = go (reading (drop at s)) e }
   where
-    go : (g : Parsed) → (placed s at g).answer ≡ records.Malformed first → FedBy g s at counts money (Malformed first) counts money
-    go unread q = let e : first ≡ at = cc in (ap Malformed e, (refl, refl))
+    go : (g : Parsed) → Err bad ≡ placed s at g → FedBy g s at counts money (Err bad) counts money
+    go unread q = let e : bad.at ≡ at = cc in (ap bad_at e, (refl, refl))
     go (parsed e rest) q = let z : ◌≡◌ {A = ℕ} 0 1 = cc in absurd (omega arith)
 
 -- ---- a file
@@ -102,17 +98,17 @@ module _ {bytes : List ℕ} {place : ℕ} {counts : List ℕ} {money : List ℤ}
   pub running-sound : Sound counts money
   running-sound = sound-of (known g.history) g.holds
 
-  pub run_step : {next : ℕ} {a : Answer} {counts' : List ℕ} {money' : List ℤ} → Small bytes
-      → FedAt bytes place counts money (Next next a) counts' money' → (place < next) × Running bytes next counts' money'
+  pub run_step : {fed : Fed} {counts' : List ℕ} {money' : List ℤ} → Small bytes
+      → FedAt bytes place counts money (Ok fed) counts' money' → (place < fed.next) × Running bytes fed.next counts' money'
   unfolding ReadsTo
-  run_step {next} {a} {counts'} {money'} small f = go (reading (drop place bytes)) refl f.outcome
+  run_step {fed} {counts'} {money'} small f = go (reading (drop place bytes)) refl f.outcome
     where
-      go : (p : Parsed) → reading (drop place bytes) ≡ p → FedBy p bytes place counts money (Next next a) counts' money'
-          → (place < next) × Running bytes next counts' money'
+      go : (p : Parsed) → reading (drop place bytes) ≡ p → FedBy p bytes place counts money (Ok fed) counts' money'
+          → (place < fed.next) × Running bytes fed.next counts' money'
       go unread i (q, same) = let z : ◌≡◌ {A = ℕ} 0 1 = cc in absurd (omega arith)
       go (parsed e rest) i (b, (q, h)) =
           let k = length bytes - length rest in
-          let n : k ≡ next = cc in
+          let n : k ≡ fed.next = cc in
           let l = lies bytes place small e.kind e.fields e.exceptions rest i in
           let there : parsed e rest ≡ parsed e (drop k bytes) = sym i ∙ ap reading l.bytes ∙ reading-writing e (drop k bytes) l.whole in
           let left : drop k bytes ≡ rest = cc in
@@ -140,18 +136,14 @@ module _ {bytes : List ℕ} {place : ℕ} {counts : List ℕ} {money : List ℤ}
       }
 
   -- a place at which no record can be read ends the run
-  pub run-refused : {first : ℕ} {counts' : List ℕ} {money' : List ℤ} → FedAt bytes place counts money (Malformed first) counts' money'
+  pub run-refused : {bad : Malformed} {counts' : List ℕ} {money' : List ℤ} → FedAt bytes place counts money (Err bad) counts' money'
       → Ran bytes place counts' money'
-  run-refused {first} {counts'} {money'} f = go (reading (drop place bytes)) refl f.outcome
+  run-refused {bad} {counts'} {money'} f = go (reading (drop place bytes)) refl f.outcome
     where
-      go : (p : Parsed) → reading (drop place bytes) ≡ p → FedBy p bytes place counts money (Malformed first) counts' money'
+      go : (p : Parsed) → reading (drop place bytes) ≡ p → FedBy p bytes place counts money (Err bad) counts' money'
           → Ran bytes place counts' money'
       go unread i (q, (c, m)) = rw (c, m) (run_ends i)
       go (parsed e rest) i (a, (q, h)) = let z : ◌≡◌ {A = ℕ} 0 1 = cc in absurd (omega arith)
-
-pub none_left : (s : List ℕ) (place : ℕ) → length s ≤ place → reading (drop place s) ≡ unread
-unfolding reading unbounded
-none_left s place h = rw (drop_of_length-le s h)
 
 -- what was written of records reads to its end as just these
 pub reads-written : (l : List Entry) → AllWhole l → (entries : List Entry) (left : List ℕ) → ReadsTo (writings l) entries left → entries ≡ l

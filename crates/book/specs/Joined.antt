@@ -1,7 +1,8 @@
 -- The join of the code and the model. From any kept book: whatever records and bytes it is given, every call is answered as the model answers it, and
 -- the memory is that of the model's book. From a new book the promises hold besides.
-use Rattle.std.specs.Prelude.{◌≡◌, List, [], ◌∷◌, reverse, ℕ, ℤ, drop}
+use Rattle.std.specs.Prelude.{◌≡◌, List, [], ◌∷◌, reverse, ℕ, ℤ, drop, Result}
 use Rattle.std.proofs.Common.{sym, ap, ◌∙◌, subst}
+use Rattle.records.specs.declared.Malformed.{Malformed}
 use Rattle.records.specs.Records.{Entry, Parsed, unread, parsed, reading}
 use Rattle.records.specs.Files.{writings, AllWhole}
 use Rattle.memory.specs.Memory.{Holds}
@@ -68,7 +69,7 @@ abbrev pub with_read : Parsed → List Entry → List Entry
 with_read unread h = h
 with_read (parsed e rest) h = e ∷ h
 
-pub fed-reached : {b : Book} {bytes : List ℕ} {at : ℕ} {counts counts' : List ℕ} {money money' : List ℤ} {h : List Entry} {r : Fed}
+pub fed-reached : {b : Book} {bytes : List ℕ} {at : ℕ} {counts counts' : List ℕ} {money money' : List ℤ} {h : List Entry} {r : Result Fed Malformed}
     → Reached b counts money h → FedAt bytes at counts money r counts' money' → Reached b counts' money' (with_read (reading (drop at bytes)) h)
 fed-reached {b} {bytes} {at} {counts} {counts'} {money} {money'} {h} {r} p f = go (reading (drop at bytes)) f.outcome
   where

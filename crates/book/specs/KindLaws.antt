@@ -1,11 +1,11 @@
 -- What the range check and a record's kind say of its call.
-use Rattle.std.specs.Prelude.{◌≡◌, refl, Bool, true, false, cond, List, [], ℕ, zero, suc, ◌-◌, ◌≤◌, ℤ, pos}
+use Rattle.std.specs.Prelude.{◌≡◌, refl, Bool, true, false, cond, List, [], ℕ, zero, suc, ◌-◌, ◌≤◌, ℤ, pos, Ok, Err}
 use Rattle.std.proofs.Common.{ap, subst, suc-ne-zero, arith}
 use Rattle.std.proofs.Math.Decide.{dec_le}
 use Rattle.whole.specs.Within.{zbound}
 use Rattle.whole.specs.Amounts.{Amount}
-use Rattle.ranges.specs.declared.Checked.TheVariants as range
-use Rattle.ranges.specs.Ranges.{in_range, checked, refusal_of}
+use Rattle.ranges.specs.declared.OutOfRange.{OutOfRange}
+use Rattle.ranges.specs.Ranges.{in_range, checked, number_of, refusal_of}
 use Rattle.records.specs.Records.{entry}
 use Rattle.model.specs.Book.{Book}
 use Rattle.model.specs.Calls.{Opening, opening, call_of}
@@ -52,14 +52,11 @@ pub amount-most : {B n : ℕ} → Amount B (pos n) → n ≤ B
 amount-most {B} {n} a = let most = a.most in omega zbound
 
 -- "2 | field out of range, or exceptions not rising"
-pub checked_refused : {counts : List ℕ} {money : List ℤ} (s : Sound counts money) (kind : ℕ) (fields x : List ℕ) {number : ℕ}
-    → checked kind fields x ≡ range.Refused number → Called counts money (entry kind fields x) (Refused number) counts money
-checked_refused {counts} {money} s kind f x {number} e = go (in_range kind f x) refl e
+pub checked_refused : {counts : List ℕ} {money : List ℤ} (s : Sound counts money) (kind : ℕ) (fields x : List ℕ) {why : OutOfRange}
+    → checked kind fields x ≡ Err why → Called counts money (entry kind fields x) (Refused (number_of why)) counts money
+checked_refused {counts} {money} s kind f x {why} e = go (in_range kind f x) refl e
   where
-    go : (t : Bool) → in_range kind f x ≡ t → cond t range.Passed (range.Refused 2) ≡ range.Refused number
-        → Called counts money (entry kind f x) (Refused number) counts money
+    go : (t : Bool) → in_range kind f x ≡ t → cond t (Ok (tt {0})) (Err (record {})) ≡ Err why
+        → Called counts money (entry kind f x) (Refused (number_of why)) counts money
     go true q p = let z : ◌≡◌ {A = ℕ} 0 1 = cc in absurd (omega arith)
-    go false q p =
-        let two : 2 ≡ number = cc in
-        subst (λ n. Called counts money (entry kind f x) (Refused n) counts money) two
-        (unranged-called s (entry kind f x) (ap (λ t. refusal_of (cond t range.Passed (range.Refused 2))) q))
+    go false q p = unranged-called s (entry kind f x) (ap (λ t. refusal_of (cond t (Ok (tt {0})) (Err (record {})))) q)

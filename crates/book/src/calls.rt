@@ -7,6 +7,7 @@ ghost use Rattle.model.specs.Calls.{call_of};
 ghost use Rattle.model.specs.Ranged.{Ranged};
 ghost use Rattle.standing.specs.Standing.{rows_of};
 ghost use Rattle.standing.specs.Made.{Sound, Made};
+ghost use Rattle.refusals.specs.Refusals.{outcome_number};
 ghost use Rattle.book.specs.Called.{Called};
 ghost use Rattle.book.specs.Answered.{numbered as numbered_as, dealt as dealt_as, opened as opened_as, Answered};
 ghost use Rattle.book.specs.Taken.{limits_in, rates_in, margins_in, deal_in};
@@ -18,10 +19,11 @@ use folding::unfold;
 use holdings::{Limits, Totals};
 use keeping::{enrol, set_limits, set_special, start};
 use memory::{COUNTS, MONEY, clear};
-use opening::{Opened, open_day};
+use opening::{OpenError, open_day};
 use payments::{pay_in, pay_out, release};
 use quoting::quote;
-use ranges::{Checked, in_range};
+use ranges::in_range;
+use refusals::Refusal;
 use settling::{refresh, settle};
 
 // What a call answers: the number of its refusal; for an open that is not the next working day, which is refusal 20, the day that is; that it
@@ -42,32 +44,32 @@ pub fn new_book(counts: &mut [u64; COUNTS], money: &mut [i64; MONEY])
     clear(counts, money)
 }
 
-// What a call answers: `accepted` where the number of its refusal is 0.
-fn numbered(number: u64, accepted: Answer) -> Answer
-    ensures { result ≡ numbered_as accepted number }
+// What a call answers: `accepted`, or the number of its refusal.
+fn numbered(outcome: Result<(), Refusal>, accepted: Answer) -> Answer
+    ensures { result ≡ numbered_as accepted (outcome_number outcome) }
 {
-    if number == 0 {
-        return accepted;
-    }
-    Answer::Refused(number)
-}
-
-fn dealt(d: Dealt) -> Answer
-    ensures { result ≡ dealt_as d }
-{
-    match d {
-        Dealt::Refused(number) => Answer::Refused(number),
-        Dealt::Accepted(buyer, seller) => Answer::BothSides(buyer, seller),
+    match outcome {
+        Ok(()) => accepted,
+        Err(refusal) => Answer::Refused(refusal.number()),
     }
 }
 
-fn opened(o: Opened) -> Answer
-    ensures { result ≡ opened_as o }
+fn dealt(outcome: Result<Dealt, Refusal>) -> Answer
+    ensures { result ≡ dealt_as outcome }
 {
-    match o {
-        Opened::Done => Answer::Done,
-        Opened::Refused(number) => Answer::Refused(number),
-        Opened::NotNext(day) => Answer::NotNext(day),
+    match outcome {
+        Ok(d) => Answer::BothSides(d.buyer, d.seller),
+        Err(refusal) => Answer::Refused(refusal.number()),
+    }
+}
+
+fn opened(outcome: Result<(), OpenError>) -> Answer
+    ensures { result ≡ opened_as outcome }
+{
+    match outcome {
+        Ok(()) => Answer::Done,
+        Err(OpenError::Refused(refusal)) => Answer::Refused(refusal.number()),
+        Err(OpenError::NotNext(day)) => Answer::NotNext(day),
     }
 }
 
@@ -88,9 +90,9 @@ fn call_account(
     kind: u64,
     fields: [u64; WIDTH],
     exceptions: &[u64],
-) -> u64
+) -> Result<(), Refusal>
     requires { Sound counts.old money.old × (Ranged (call_of (entry kind fields exceptions.now)) × (kind ≤ 6)) }
-    ensures { Made counts.old money.old (call_of (entry kind fields exceptions.now)) result counts.new money.new }
+    ensures { Made counts.old money.old (call_of (entry kind fields exceptions.now)) (outcome_number result) counts.new money.new }
 {
     let account = fields[0];
     let amount = fields[1];
@@ -192,8 +194,8 @@ pub fn call(
     requires { Sound counts.old money.old }
     ensures { Called counts.old money.old (entry kind fields exceptions.now) result counts.new money.new }
 {
-    if let Checked::Refused(number) = in_range(kind, fields, exceptions) {
-        return Answer::Refused(number);
+    if let Err(refused) = in_range(kind, fields, exceptions) {
+        return Answer::Refused(refused.number());
     }
     if kind <= 6 {
         return numbered(

@@ -7,6 +7,7 @@ ghost use Rattle.booking.specs.Variation.{variation_at, variation};
 ghost use Rattle.booking.specs.Carried.{carried, all_carried};
 
 use positions::{Mark, Position, overnight};
+use std::array;
 
 // What a close books on one position.
 fn variation_at(p: Position, m: Mark) -> i64
@@ -23,14 +24,9 @@ pub fn variation(positions: [Position; 6], marks: [Mark; 6]) -> i64
     requires { Kept 10000 positions × PricedAll marks }
     ensures { result ≡ variation positions marks }
 {
-    let mut sum: i64 = 0;
-    let mut row: usize = 0;
-    while row < 6 {
-        let p = positions[row];
-        let m = marks[row];
-        let booked = variation_at(p, m);
-        sum += booked;
-        row += 1;
+    let mut sum = 0;
+    for (p, m) in positions.iter().zip(&marks) {
+        sum += variation_at(*p, *m);
     }
     sum
 }
@@ -39,11 +35,7 @@ pub fn variation(positions: [Position; 6], marks: [Mark; 6]) -> i64
 fn carried(p: Position, m: Mark) -> Position
     ensures { result ≡ carried p m }
 {
-    let net = p.net;
-    if m.ending {
-        return overnight(0);
-    }
-    overnight(net)
+    overnight(if m.ending { 0 } else { p.net })
 }
 
 // What a close leaves of all of them.
@@ -51,14 +43,5 @@ pub fn all_carried(positions: [Position; 6], marks: [Mark; 6]) -> [Position; 6]
     requires { Kept 10000 positions × PricedAll marks }
     ensures { result ≡ all_carried positions marks }
 {
-    let mut left = positions;
-    let mut row: usize = 0;
-    while row < 6 {
-        let p = positions[row];
-        let m = marks[row];
-        let q = carried(p, m);
-        left[row] = q;
-        row += 1;
-    }
-    left
+    array::from_fn(|row| carried(positions[row], marks[row]))
 }

@@ -1,5 +1,5 @@
 -- The codes of a listing: their months, that none comes twice, and which stay from a day to the next that is opened.
-use Rattle.std.specs.Prelude.{◌≡◌, Bool, not, ◌||◌, ltb}
+use Rattle.std.specs.Prelude.{◌≡◌, Bool, not, ◌||◌, ltb, Option, Some, None}
 use Rattle.std.proofs.Math.Path.{refl, sym}
 use Rattle.std.proofs.Common.{◌∙◌, ap, subst}
 use Rattle.std.proofs.Math.Bool.{true, false, cond}
@@ -15,8 +15,6 @@ use Rattle.lists.specs.Has.{has, Distinct}
 use Rattle.lists.specs.HasLaws.{by_test, clash, or_right, or-skip, has-append, has_one}
 use Rattle.lists.specs.Passing.{passing, all}
 use Rattle.lists.specs.Rows.{map-append}
-use Rattle.days.specs.declared.Day.{Day}
-use Rattle.days.specs.declared.Day.TheVariants.{On, NoDay}
 use Rattle.days.specs.Days.{rising, rising_after, next_working, accepted, is_on, is_no_day}
 use Rattle.days.specs.DayLaws.{rising_step, rising-below, First, Last, first-of, last_of}
 use Rattle.months.specs.Months.{code_of, settlement_day, last_trading_day, of_month, last_trading_of}
@@ -75,9 +73,9 @@ module _ (p : ℕ → Bool) where
           (rw (z, e, eq-eqb (code_of m) (code_of m) refl))
 
 -- ---- a code's last trading day is before day k
-abbrev pub is_before : ℕ → Day → Bool
-is_before k (On l) = ltb l k
-is_before k NoDay = false
+abbrev pub is_before : ℕ → Option ℕ → Bool
+is_before k (Some l) = ltb l k
+is_before k None = false
 
 abbrev pub is_past : (ℕ → Bool) → ℕ → ℕ → Bool
 is_past w k c = is_before k (last_trading_of w c)
@@ -86,17 +84,17 @@ is_past w k c = is_before k (last_trading_of w c)
 pub past-none : (w : ℕ → Bool) (c : ℕ) → is_past w 0 c ≡ false
 past-none w c = go (last_trading_of w c)
   where
-    go : (a : Day) → is_before 0 a ≡ false
-    go (On l) = le-ltb l 0 (omega arith)
-    go NoDay = refl
+    go : (a : Option ℕ) → is_before 0 a ≡ false
+    go (Some l) = le-ltb l 0 (omega arith)
+    go None = refl
 
 -- and what is not past on a day was not past earlier
 pub past-later : (w : ℕ → Bool) (c k n : ℕ) → k ≤ n → is_past w n c ≡ false → is_past w k c ≡ false
 past-later w c k n h = go (last_trading_of w c)
   where
-    go : (a : Day) → is_before n a ≡ false → is_before k a ≡ false
-    go (On l) e = le-ltb l k (omega (arith, ltb-false l n e))
-    go NoDay e = refl
+    go : (a : Option ℕ) → is_before n a ≡ false → is_before k a ≡ false
+    go (Some l) e = le-ltb l k (omega (arith, ltb-false l n e))
+    go None e = refl
 
 -- ---- the codes of a listing that is known
 pub code_below : (m : ℕ) → m < 1200 → code_of m < 10000
@@ -110,7 +108,7 @@ pub record Runs (w : ℕ → Bool) (t c : ℕ) : Type 0 where
   pub code : code_of month ≡ c
   pub listed : is_listed w t month ≡ true
   pub day : ℕ
-  pub settled : settlement_day w month ≡ On day
+  pub settled : settlement_day w month ≡ Some day
 
 module _ (w : ℕ → Bool) where
   last-trading : (m : ℕ) → m < 1200 → last_trading_of w (code_of m) ≡ last_trading_day w m
@@ -138,15 +136,15 @@ module _ (w : ℕ → Bool) where
         go f.0 f.1.0 f.1.1.0 f.1.1.1 (settlement_day w f.0) refl (known-settles w t f.0 known f.1.0 f.1.1.1)
       where
         go : (m : ℕ) → m < 1200 → code_of m ≡ c → is_listed w t m ≡ true
-            → (a : Day) → settlement_day w m ≡ a → not (is_no_day a) ≡ true → Runs w t c
-        go m b e l (On d) p q = record { month = m; below = b; code = e; listed = l; day = d; settled = p }
-        go m b e l NoDay p q = clash q refl
+            → (a : Option ℕ) → settlement_day w m ≡ a → not (is_no_day a) ≡ true → Runs w t c
+        go m b e l (Some d) p q = record { month = m; below = b; code = e; listed = l; day = d; settled = p }
+        go m b e l None p q = clash q refl
 
     runs-code : (m : ℕ) → m < 1200 → is_listed w t m ≡ true → has (code_of m) (listing w t).codes ≡ true
     runs-code m h e = rw codes-are (passing-code (is_listed w t) m 1200 h e)
 
     -- a listed code has its last trading day, not before t
-    pub code-lasts : w t ≡ true → (c : ℕ) → has c (listing w t).codes ≡ true → (l : ℕ) × ((last_trading_of w c ≡ On l) × (t ≤ l))
+    pub code-lasts : w t ≡ true → (c : ℕ) → has c (listing w t).codes ≡ true → (l : ℕ) × ((last_trading_of w c ≡ Some l) × (t ≤ l))
     code-lasts works c h =
         let r = code_runs c h in
         let l = listed-trades w t r.month r.day works r.listed r.settled in
@@ -166,7 +164,7 @@ module _ (w : ℕ → Bool) where
 
   -- ---- from a day to the next that is opened
   -- a listed month that does not end on t is listed on the next working day
-  month-stays : (t u m d l : ℕ) → First w (t + 1) (3653 - (t + 1)) u → is_listed w t m ≡ true → settlement_day w m ≡ On d
+  month-stays : (t u m d l : ℕ) → First w (t + 1) (3653 - (t + 1)) u → is_listed w t m ≡ true → settlement_day w m ≡ Some d
       → Last w d l → t ≤ l → (t ≡ l → ⊥) → is_listed w u m ≡ true
   unfolding settles_after
   month-stays t u m d l f e p b le ne = go (dec_lt l u)
@@ -175,14 +173,14 @@ module _ (w : ℕ → Bool) where
       go (yes q) = clash b.works (f.skips l (omega arith) q)
       go (no q) = stays-listed w t u m (omega arith) e (rw (p, le-leb 240 m (settles-from w m d p)) (lt-ltb u d (omega arith)))
 
-  pub code_stays : (t u c : ℕ) → (listing w t).known ≡ true → (listing w u).known ≡ true → w t ≡ true → next_working w (t + 1) ≡ On u
+  pub code_stays : (t u c : ℕ) → (listing w t).known ≡ true → (listing w u).known ≡ true → w t ≡ true → next_working w (t + 1) ≡ Some u
       → has c (listing w t).codes ≡ true → is_on t (last_trading_of w c) ≡ false → has c (listing w u).codes ≡ true
   code_stays t u c k k' works next h goes_on =
       let r = code_runs t k c h in
       let m = r.month in
       let d = r.day in
       let s = listed-trades w t m d works r.listed r.settled in
-      let ends : last_trading_of w c ≡ On s.0 = ap (last_trading_of w) (sym r.code) ∙ last-trading m r.below ∙ s.1.0 in
+      let ends : last_trading_of w c ≡ Some s.0 = ap (last_trading_of w) (sym r.code) ∙ last-trading m r.below ∙ s.1.0 in
       let f = first-of w (3653 - (t + 1)) (t + 1) u next in
       let b = last_of w d s.0 (sym (trades-before w m d r.settled) ∙ s.1.0) in
       let not-now = eqb-false t s.0 (rw ends at goes_on) in
@@ -222,7 +220,7 @@ module _ (w : ℕ → Bool) where
       ends q =
           let m = other.month in
           let s = listed-trades w t m other.day works other.listed other.settled in
-          let on : last_trading_of w k ≡ On s.0 = ap (last_trading_of w) (sym other.code) ∙ last-trading m other.below ∙ s.1.0 in
+          let on : last_trading_of w k ≡ Some s.0 = ap (last_trading_of w) (sym other.code) ∙ last-trading m other.below ∙ s.1.0 in
           let z : t ≡ s.0 = eqb-true t s.0 (rw on at q) in
           let b = last_of w other.day s.0 (sym (trades-before w m other.day other.settled) ∙ s.1.0) in
           let f = settles-first w first.month first.day first.settled in

@@ -1,7 +1,6 @@
 -- Document 01's marked examples of the calendar, computed, without exceptions.
-use Rattle.std.specs.Prelude.{◌≡◌, refl, Bool, true, [], ◌∷◌, ℕ}
+use Rattle.std.specs.Prelude.{◌≡◌, refl, Bool, true, [], ◌∷◌, ℕ, Some}
 use Rattle.std.proofs.Common.{sym, arith}
-use Rattle.days.specs.declared.Day.TheVariants.{On}
 use Rattle.days.specs.Days.{is_weekend, is_exception, is_working, first_working, last_working}
 use Rattle.months.specs.Months.{is_code, month_of, code_of, month_length, first_day, third_wednesday, settlement_day, last_trading_day, settlement_of, last_trading_of}
 use Rattle.calendar.specs.Listing.{listing}
@@ -12,12 +11,12 @@ abbrev pub plain : ℕ → Bool
 plain = is_working []
 
 -- 3. 2309 settles on day 1358.
-pub example-3 : settlement_of plain 2309 ≡ On 1358
+pub example-3 : settlement_of plain 2309 ≡ Some 1358
 unfolding is_working is_exception is_weekend first_working is_code month_of month_length first_day third_wednesday settlement_day
 example-3 = refl
 
 -- 4. Its last trading day is 1357.
-pub example-4 : last_trading_of plain 2309 ≡ On 1357
+pub example-4 : last_trading_of plain 2309 ≡ Some 1357
 unfolding is_working is_exception is_weekend first_working last_working is_code month_of month_length first_day third_wednesday settlement_day last_trading_day
 example-4 = refl
 

@@ -1,16 +1,13 @@
 -- What is listed on a day: document 01, 'Calendar and contract months', "Listed on day t".
-use Rattle.std.specs.Prelude.{Bool, true, false, ◌&&◌, not, cond, List, map, ℕ, leb, ltb, length, replicate}
+use Rattle.std.specs.Prelude.{Bool, true, false, ◌&&◌, not, cond, List, map, ℕ, leb, ltb, length, replicate, Option, Some, None}
 use Rattle.lists.specs.Passing.{passing, all}
-use Rattle.days.specs.declared.Day.{Day}
-use Rattle.days.specs.declared.Day.TheVariants.{On, NoDay}
-use Rattle.calendar.specs.declared.listing.Listing.{Listing}
 use Rattle.days.specs.Days.{is_no_day}
 use Rattle.months.specs.Months.{months, january2020, is_quarterly, code_of, settlement_day}
 
 -- "with D after t .. a D past the calendar's end counts as after every t"
-abbrev pub is_after : ℕ → Day → Bool
-is_after t (On d) = ltb t d
-is_after t NoDay = true
+abbrev pub is_after : ℕ → Option ℕ → Bool
+is_after t (Some d) = ltb t d
+is_after t None = true
 
 -- a month before January 2020 has its days before day 0, and so before every t
 unfoldable pub settles_after : (ℕ → Bool) → ℕ → ℕ → Bool
@@ -42,6 +39,11 @@ listed_months w t = passing (is_listed w t) months
 abbrev pub settles : (ℕ → Bool) → ℕ → Bool
 settles w m = not (is_no_day (settlement_day w m))
 
+-- whether each listed month has its D in the calendar, and the codes
+pub record Listing : Type 0 where
+  pub known : Bool
+  pub codes : List ℕ
+
 -- a listed month's D is not in the calendar: no codes
 abbrev pub unknown : Listing
 unknown = record { known = false; codes = replicate 6 0 }
@@ -49,3 +51,7 @@ unknown = record { known = false; codes = replicate 6 0 }
 -- the codes of the listed months, if each has its D in the calendar
 unfoldable pub listing : (ℕ → Bool) → ℕ → Listing
 listing w t = cond (all (settles w) (listed_months w t)) (record { known = true; codes = map code_of (listed_months w t) }) unknown
+
+-- the codes, if they are known
+abbrev pub known_codes : Listing → Option (List ℕ)
+known_codes l = cond l.known (Some l.codes) None

@@ -1,5 +1,5 @@
 -- What follows for listings: six codes that rise, what is listed stays until it settles, and what has settled is never listed again.
-use Rattle.std.specs.Prelude.{◌≡◌, Bool, leb, length}
+use Rattle.std.specs.Prelude.{◌≡◌, Bool, leb, length, Option, Some, None}
 use Rattle.std.proofs.Math.Path.{refl}
 use Rattle.std.proofs.Common.{sym, ◌∙◌, arith}
 use Rattle.std.proofs.Math.Bool.{true, false, not, cond, and-eq-true_iff}
@@ -10,14 +10,27 @@ use Rattle.std.proofs.Math.Dec.{ltb}
 use borrow.Author.Tests.{ltb-true, lt-ltb}
 use Rattle.lists.specs.Passing.{passing, all, count_past, count-more, all_append, all-passing, one-fails}
 use Rattle.lists.specs.Rows.{map-append}
-use Rattle.days.specs.declared.Day.{Day}
-use Rattle.days.specs.declared.Day.TheVariants.{On, NoDay}
 use Rattle.days.specs.Days.{rising, rising_after, is_no_day}
 use Rattle.days.specs.DayLaws.{last-finds}
 use Rattle.months.specs.Months.{is_quarterly, code_of, settlement_day, last_trading_day}
 use Rattle.months.specs.MonthLaws.{codes-rise, trades-before}
-use Rattle.calendar.specs.Listing.{is_after, settles_after, is_candidate, places, earlier, is_listed, settles, listed_months, unknown, listing}
+use Rattle.calendar.specs.Listing.{is_after, settles_after, is_candidate, places, earlier, is_listed, settles, listed_months, Listing, unknown, listing, known_codes}
 use Rattle.calendar.specs.ChoosingLaws.{listed-count, past-candidate}
+
+-- ---- codes are answered where they are known
+pub codes-known : (l : Listing) (codes : List ℕ) → known_codes l ≡ Some codes → (l.known ≡ true) × (l.codes ≡ codes)
+codes-known l codes e = go l.known refl e
+  where
+    go : (t : Bool) → l.known ≡ t → cond t (Some l.codes) None ≡ Some codes → (l.known ≡ true) × (l.codes ≡ codes)
+    go true p q = (p, cc)
+    go false p q = let z : ◌≡◌ {A = ℕ} 0 1 = cc in absurd (omega arith)
+
+pub codes-unknown : (l : Listing) → known_codes l ≡ None → l.known ≡ false
+codes-unknown l e = go l.known refl e
+  where
+    go : (t : Bool) → l.known ≡ t → cond t (Some l.codes) None ≡ None → l.known ≡ false
+    go true p q = let z : ◌≡◌ {A = ℕ} 0 1 = cc in absurd (omega arith)
+    go false p q = p
 
 -- ---- codes of months that pass a test, in rising order
 
@@ -58,17 +71,17 @@ module _ (p : ℕ → Bool) where
 module _ (w : ℕ → Bool) where
   -- ---- D and t
 
-  after-day : (t m d : ℕ) → settles_after w t m ≡ true → settlement_day w m ≡ On d → t < d
+  after-day : (t m d : ℕ) → settles_after w t m ≡ true → settlement_day w m ≡ Some d → t < d
   unfolding settles_after
   after-day t m d e p = ltb-true t d (rw p at ((and-eq-true_iff (leb 240 m) (is_after t (settlement_day w m))).0 e).1)
 
   -- a listed month settles after t
-  pub listed-after : (t m d : ℕ) → is_listed w t m ≡ true → settlement_day w m ≡ On d → t < d
+  pub listed-after : (t m d : ℕ) → is_listed w t m ≡ true → settlement_day w m ≡ Some d → t < d
   unfolding is_listed
   listed-after t m d e p = after-day t m d ((and-eq-true_iff (settles_after w t m) _).0 e).0 p
 
   -- what has settled by t is not listed on t
-  pub settled-never : (t m d : ℕ) → settlement_day w m ≡ On d → d ≤ t → is_listed w t m ≡ false
+  pub settled-never : (t m d : ℕ) → settlement_day w m ≡ Some d → d ≤ t → is_listed w t m ≡ false
   settled-never t m d p h = go (is_listed w t m) refl
     where
       go : (a : Bool) → is_listed w t m ≡ a → a ≡ false
@@ -76,16 +89,16 @@ module _ (w : ℕ → Bool) where
       go false e = refl
 
   -- on a working day a listed month can still be traded
-  pub listed-trades : (t m d : ℕ) → w t ≡ true → is_listed w t m ≡ true → settlement_day w m ≡ On d → (l : ℕ) × ((last_trading_day w m ≡ On l) × (t ≤ l))
+  pub listed-trades : (t m d : ℕ) → w t ≡ true → is_listed w t m ≡ true → settlement_day w m ≡ Some d → (l : ℕ) × ((last_trading_day w m ≡ Some l) × (t ≤ l))
   listed-trades t m d works e p =
       let found = last-finds w d t (listed-after t m d e p) works in
       (found.0, (trades-before w m d p ∙ found.1.0, found.1.1))
 
   -- ---- from one day to a later one
 
-  later-after : (t u : ℕ) → t ≤ u → (a : Day) → is_after u a ≡ true → is_after t a ≡ true
-  later-after t u h (On d) e = lt-ltb t d (omega (arith, ltb-true u d e))
-  later-after t u h NoDay e = refl
+  later-after : (t u : ℕ) → t ≤ u → (a : Option ℕ) → is_after u a ≡ true → is_after t a ≡ true
+  later-after t u h (Some d) e = lt-ltb t d (omega (arith, ltb-true u d e))
+  later-after t u h None e = refl
 
   later-settles : (t u m : ℕ) → t ≤ u → settles_after w u m ≡ true → settles_after w t m ≡ true
   unfolding settles_after
@@ -131,16 +144,16 @@ module _ (w : ℕ → Bool) where
       go false a q = absurd (false≢true q)
 
   -- where it is not, one of them has none
-  pub unknown-settles : (t : ℕ) → (listing w t).known ≡ false → (m : ℕ) × ((is_listed w t m ≡ true) × (settlement_day w m ≡ NoDay))
+  pub unknown-settles : (t : ℕ) → (listing w t).known ≡ false → (m : ℕ) × ((is_listed w t m ≡ true) × (settlement_day w m ≡ None))
   unfolding listing
   unknown-settles t e = go (all (settles w) (listed_months w t)) refl e
     where
-      no-day : (a : Day) → not (is_no_day a) ≡ false → a ≡ NoDay
-      no-day (On d) p = absurd (false≢true (sym p))
-      no-day NoDay p = refl
+      no-day : (a : Option ℕ) → not (is_no_day a) ≡ false → a ≡ None
+      no-day (Some d) p = absurd (false≢true (sym p))
+      no-day None p = refl
 
       go : (a : Bool) → all (settles w) (listed_months w t) ≡ a → (cond a (record { known = true; codes = map code_of (listed_months w t) }) unknown).known ≡ false
-          → (m : ℕ) × ((is_listed w t m ≡ true) × (settlement_day w m ≡ NoDay))
+          → (m : ℕ) × ((is_listed w t m ≡ true) × (settlement_day w m ≡ None))
       go true a q = absurd (false≢true (sym q))
       go false a q =
           let f = one-fails (settles w) (is_listed w t) 1200 a in

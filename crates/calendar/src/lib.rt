@@ -6,4 +6,4 @@ mod codes;
 mod listing;
 
 pub use codes::{last_trading_of, settlement_of};
-pub use listing::{Listing, listed_on};
+pub use listing::listed_on;

@@ -29,19 +29,15 @@ pub fn at_close(h: Holdings, d: DayEnd) -> Holdings
     requires { Sound 10000 h × GoodDayEnd d }
     ensures { result ≡ at_close d h }
 {
-    let p = h.positions;
-    let marks = d.marks;
-    let margins = d.margins;
-    let booked = variation(p, marks);
-    let positions = all_carried(p, marks);
-    let dayend = total(positions, margins);
-    let limits = h.coming;
-    let mut x = h;
-    x.limits = limits;
-    x.dayend = dayend;
-    x.variation = booked;
-    x.positions = positions;
-    x
+    let positions = all_carried(h.positions, d.marks);
+    let dayend = total(positions, d.margins);
+    Holdings {
+        limits: h.coming,
+        dayend,
+        variation: variation(h.positions, d.marks),
+        positions,
+        ..h
+    }
 }
 
 // What a total asks beyond the basis: the excess at the multiplier, in hundredths, rounded up.
@@ -49,9 +45,7 @@ pub fn over_limit(total: i64, basis: i64, multiplier: u64) -> i64
     requires { Amount 12000000000000 total × (Amount 100000000000000 basis × (multiplier ≤ 1000)) }
     ensures { result ≡ over_limit total basis multiplier }
 {
-    let excess = larger(total - basis, 0);
-    let by = multiplier as i64;
-    hundredth_up(excess * by)
+    hundredth_up(larger(total - basis, 0) * multiplier as i64)
 }
 
 // The requirement after a close.
@@ -59,11 +53,8 @@ pub fn requirement(h: Holdings, reference: u64, multiplier: u64) -> i64
     requires { Sound 10000 h × (GoodReference reference × (multiplier ≤ 1000)) }
     ensures { result ≡ requirement h reference multiplier }
 {
-    let limits = h.limits;
-    let least = basis(limits, reference);
-    let total = h.dayend;
-    let over = over_limit(total, least, multiplier);
-    least + over + h.special
+    let least = basis(h.limits, reference);
+    least + over_limit(h.dayend, least, multiplier) + h.special
 }
 
 // The core of an account that has its margin: the basis, or the day-end total where that is more.
@@ -71,19 +62,7 @@ fn full_core(h: Holdings, reference: u64) -> i64
     requires { Granted h.limits × GoodReference reference }
     ensures { result ≡ full_core h reference }
 {
-    let limits = h.limits;
-    let least = basis(limits, reference);
-    let total = h.dayend;
-    larger(least, total)
-}
-
-// With another core.
-fn with_core(h: Holdings, core: i64) -> Holdings
-    ensures { result ≡ with_core h core }
-{
-    let mut x = h;
-    x.core = core;
-    x
+    larger(basis(h.limits, reference), h.dayend)
 }
 
 // The core refreshed.
@@ -91,8 +70,10 @@ pub fn with_full_core(h: Holdings, reference: u64) -> Holdings
     requires { Granted h.limits × GoodReference reference }
     ensures { result ≡ with_core h (full_core h reference) }
 {
-    let core = full_core(h, reference);
-    with_core(h, core)
+    Holdings {
+        core: full_core(h, reference),
+        ..h
+    }
 }
 
 // The second half of a close: the core by the sign of free. Where margin is missing it is not raised.
@@ -101,10 +82,12 @@ pub fn with_core_by(h: Holdings, reference: u64, free: i64) -> Holdings
     ensures { result ≡ with_core_by h reference free }
 {
     let full = full_core(h, reference);
-    if 0 <= free {
-        return with_core(h, full);
+    Holdings {
+        core: if 0 <= free {
+            full
+        } else {
+            smaller(full, h.core)
+        },
+        ..h
     }
-    let old = h.core;
-    let core = smaller(full, old);
-    with_core(h, core)
 }

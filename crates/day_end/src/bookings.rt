@@ -14,6 +14,7 @@ use accounts::{Account, close_account};
 use closing::DayEnd;
 use memory::{load_account, load_contract, load_header, load_margins, load_outcome, store_account};
 use positions::{Mark, Position};
+use std::array;
 
 // How the contract in row k is marked. Rule 5 is that of a last trading day.
 fn mark_at(counts: &[u64], money: &[i64], k: usize) -> Mark
@@ -22,11 +23,10 @@ fn mark_at(counts: &[u64], money: &[i64], k: usize) -> Mark
 {
     let x = load_contract(counts, money, k);
     let o = load_outcome(counts, money, k);
-    let ending = o.rule == 5;
     Mark {
         previous: x.previous,
         rate: o.rate,
-        ending,
+        ending: o.rule == 5,
     }
 }
 
@@ -34,13 +34,7 @@ fn marks_of(counts: &[u64], money: &[i64]) -> [Mark; 6]
     requires { Long counts.now money.now }
     ensures { result ≡ tab (mark_at counts.now money.now) 6 }
 {
-    let first = mark_at(counts, money, 0);
-    let second = mark_at(counts, money, 1);
-    let third = mark_at(counts, money, 2);
-    let fourth = mark_at(counts, money, 3);
-    let fifth = mark_at(counts, money, 4);
-    let sixth = mark_at(counts, money, 5);
-    [first, second, third, fourth, fifth, sixth]
+    array::from_fn(|k| mark_at(counts, money, k))
 }
 
 // What the close has for every account, once the outcomes stand in their rows.
@@ -49,11 +43,9 @@ pub(crate) fn day_end(counts: &[u64], money: &[i64]) -> DayEnd
     ensures { Tells counts.now money.now result day_end_in }
 {
     let h = load_header(counts);
-    let marks = marks_of(counts, money);
-    let margins = load_margins(counts);
     DayEnd {
-        marks,
-        margins,
+        marks: marks_of(counts, money),
+        margins: load_margins(counts),
         reference: h.reference,
         multiplier: h.multiplier,
     }
@@ -81,12 +73,8 @@ fn closed_row(a: Account, d: DayEnd, ended: bool) -> Account
 {
     let x = close_account(a, d);
     let mut holdings = x.holdings;
-    let held = holdings.positions;
-    let positions = moved_up(held, ended);
-    holdings.positions = positions;
-    let mut y = x;
-    y.holdings = holdings;
-    y
+    holdings.positions = moved_up(holdings.positions, ended);
+    Account { holdings, ..x }
 }
 
 // The close of each account.
@@ -94,13 +82,9 @@ pub(crate) fn close_accounts(counts: &mut [u64], money: &mut [i64], d: DayEnd, e
     requires { Has (Bookable d) counts.old money.old }
     ensures { Turns counts.old money.old counts.new money.new (booked_with ended d) }
 {
-    let h = load_header(&counts[..]);
-    let members = h.members as usize;
-    let mut i: usize = 0;
-    while i < members {
-        let a = load_account(&counts[..], &money[..], i);
-        let x = closed_row(a, d, ended);
-        store_account(&mut *counts, &mut *money, i, x);
-        i += 1;
+    let h = load_header(counts);
+    for i in 0..h.members as usize {
+        let a = load_account(counts, money, i);
+        store_account(counts, money, i, closed_row(a, d, ended));
     }
 }

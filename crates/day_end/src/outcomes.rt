@@ -8,7 +8,6 @@ ghost use Rattle.standing.specs.Turns.{Has, Tells, Turns};
 ghost use Rattle.day_end.specs.Closable.{Priceable};
 
 use calendar::last_trading_of;
-use days::Day;
 use memory::{Contract, Outcome, load_contract, load_header, store_outcome};
 use rates::{number_of, settle};
 
@@ -17,25 +16,18 @@ fn ends_on(exceptions: &[u64], day: u64, code: u64) -> bool
     requires { rising exceptions.now ≡ true }
     ensures { result ≡ is_on day (last_trading_of (is_working exceptions.now) code) }
 {
-    match last_trading_of(exceptions, code) {
-        Day::On(last) => day == last,
-        Day::NoDay => false,
-    }
+    last_trading_of(exceptions, code) == Some(day)
 }
 
 fn outcome_of(x: Contract, ending: bool, final_rate: i64) -> Outcome
     requires { Sound x.tally }
     ensures { result ≡ outcome_from x ending final_rate }
 {
-    let tally = x.tally;
-    let previous = x.previous;
-    let s = settle(tally, previous, ending, final_rate);
-    let rule = s.rule;
-    let number = number_of(rule);
+    let s = settle(x.tally, x.previous, ending, final_rate);
     Outcome {
         code: x.code,
         rate: s.rate,
-        rule: number,
+        rule: number_of(s.rule),
         used: s.used,
     }
 }
@@ -57,10 +49,8 @@ pub(crate) fn store_outcomes(counts: &mut [u64], money: &mut [i64], final_rate: 
     requires { Has Priceable counts.old money.old }
     ensures { Turns counts.old money.old counts.new money.new (priced final_rate) }
 {
-    let mut k: usize = 0;
-    while k < 6 {
-        let o = outcome_at(&counts[..], &money[..], k, final_rate);
-        store_outcome(&mut *counts, &mut *money, k, o);
-        k += 1;
+    for k in 0..6 {
+        let o = outcome_at(counts, money, k, final_rate);
+        store_outcome(counts, money, k, o);
     }
 }

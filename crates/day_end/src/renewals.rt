@@ -19,10 +19,9 @@ fn renewed_at(counts: &[u64], money: &[i64], k: usize) -> Contract
         let x = load_contract(counts, money, k);
         let o = load_outcome(counts, money, k);
         return Contract {
-            code: x.code,
-            margin: x.margin,
             previous: o.rate,
             tally,
+            ..x
         };
     }
     Contract {
@@ -39,11 +38,9 @@ pub(crate) fn renew_contracts(counts: &mut [u64], money: &mut [i64], ended: bool
     ensures { Turns counts.old money.old counts.new money.new (renewed_with ended) }
 {
     let gone = ended as usize;
-    let mut k: usize = 0;
-    while k < 6 {
-        let x = renewed_at(&counts[..], &money[..], k + gone);
-        store_contract(&mut *counts, &mut *money, k, x);
-        k += 1;
+    for k in 0..6 {
+        let x = renewed_at(counts, money, k + gone);
+        store_contract(counts, money, k, x);
     }
 }
 
@@ -52,19 +49,14 @@ pub(crate) fn shut_header(counts: &mut [u64], ended: bool)
     requires { length counts.old ≡ counts_long }
     ensures { counts.new ≡ with_header counts.old (shut_header ended (header_at counts.old)) }
 {
-    let h = load_header(&counts[..]);
-    let listed = 6 - ended as u64;
+    let h = load_header(counts);
     let x = Header {
         point: 4,
-        day: h.day,
         clock: 0,
         trades: 0,
-        reference: h.reference,
-        multiplier: h.multiplier,
-        exceptions: h.exceptions,
-        listed,
+        listed: 6 - ended as u64,
         settled: 6,
-        members: h.members,
+        ..h
     };
-    store_header(&mut *counts, x);
+    store_header(counts, x);
 }

@@ -1,8 +1,8 @@
 -- What follows for days: the steps by which the code walks, what a search finds, and breaks of days off.
-use Rattle.std.specs.Prelude.{◌≡◌, Bool, ◌&&◌, ◌||◌, not, List, [], ◌∷◌, length, get_or, drop, eqb, ltb}
+use Rattle.std.specs.Prelude.{◌≡◌, Bool, ◌&&◌, ◌||◌, not, List, [], ◌∷◌, length, get_or, drop, eqb, ltb, Option, Some, None}
 use Rattle.std.proofs.Math.Path.{refl, ap, subst}
 use Rattle.std.proofs.Common.{sym, ap₂, ◌∙◌, add-one, drop_of_length-le, drop-cons}
-use Rattle.std.proofs.Math.Bool.{true, false, cond, and-eq-true_iff, or-false}
+use Rattle.std.proofs.Math.Bool.{true, false, cond, and-eq-true_iff, and-false, or-false}
 use Rattle.std.proofs.lemmas.Bool.{false≢true}
 use Prim.Native.Nat.{ℕ, zero, suc, ◌+◌, ◌-◌, ◌≤◌, ◌<◌}
 use Rattle.std.proofs.Math.Numerals.{unary_clauses}
@@ -11,8 +11,6 @@ use native.Mathlib.Omega.{arith}
 use borrow.Author.Tests.{ltb-true, lt-ltb, le-ltb, ne_eqb}
 use Rattle.lists.specs.Has.{has}
 use Rattle.lists.specs.HasLaws.{eqb-flip}
-use Rattle.days.specs.declared.Day.{Day}
-use Rattle.days.specs.declared.Day.TheVariants.{On, NoDay}
 use Rattle.days.specs.Days.{days, is_exception, rising, rising_after, first_working, next_working, last_working, is_no_day, is_long_break, no_long_break, accepted}
 
 -- ---- whether a list rises, walked from the front: what is left decides
@@ -67,9 +65,46 @@ unfolding rising
 rising-rest e [] r = refl
 rising-rest e (f ∷ l) r = (rising_step e f l r).1
 
+-- ---- a list that rises, told by its neighbours, and its order
+
+rising_after-each : (x : ℕ) (l : List ℕ) → ((k : ℕ) → k < length l → ltb (get_or (x ∷ l) k 0) (get_or l k 0) ≡ true) → rising_after x l ≡ true
+unfolding rising_after
+rising_after-each x [] h = refl
+rising_after-each x (f ∷ l) h = rw (h 0 (omega arith)) (rising_after-each f l (λ k a. h (suc k) (omega arith)))
+
+rising_after-broken : (x : ℕ) (l : List ℕ) (k : ℕ) → k < length l → ltb (get_or (x ∷ l) k 0) (get_or l k 0) ≡ false → rising_after x l ≡ false
+unfolding rising_after
+rising_after-broken x [] k h e = absurd (omega arith)
+rising_after-broken x (f ∷ l) zero h e = rw e
+rising_after-broken x (f ∷ l) (suc k) h e = rw (rising_after-broken f l k (omega arith) e) (and-false (ltb x f))
+
+-- each is below the next
+pub rising-each : (e : List ℕ) → ((k : ℕ) → k + 1 < length e → ltb (get_or e k 0) (get_or e (k + 1) 0) ≡ true) → rising e ≡ true
+unfolding rising
+rising-each [] h = refl
+rising-each (x ∷ l) h = rising_after-each x l (λ k a. rw add-one at (h k (omega arith)))
+
+-- one is not below the next
+pub rising-broken : (e : List ℕ) (k : ℕ) → k + 1 < length e → ltb (get_or e k 0) (get_or e (k + 1) 0) ≡ false → rising e ≡ false
+unfolding rising
+rising-broken [] k h q = absurd (omega arith)
+rising-broken (x ∷ l) k h q = rising_after-broken x l k (omega arith) (rw add-one at q)
+
+rising-least : (x : ℕ) (l : List ℕ) → rising_after x l ≡ true → (j : ℕ) → j < length (x ∷ l) → x ≤ get_or (x ∷ l) j 0
+rising-least x l r zero h = omega arith
+rising-least x [] r (suc j) h = absurd (omega arith)
+rising-least x (f ∷ l) r (suc j) h = let p = rising_step x f l r in omega (arith, rising-least f l p.1 j (omega arith))
+
+pub rising-sorted : (e : List ℕ) → rising e ≡ true → (i j : ℕ) → i ≤ j → j < length e → get_or e i 0 ≤ get_or e j 0
+unfolding rising
+rising-sorted [] r i j a b = absurd (omega arith)
+rising-sorted (x ∷ l) r zero j a b = rising-least x l r j b
+rising-sorted (x ∷ l) r (suc i) zero a b = absurd (omega arith)
+rising-sorted (x ∷ l) r (suc i) (suc j) a b = rising-sorted l (rising-rest x l r) i j (omega arith) (omega arith)
+
 -- ---- an exception, looked up where they rise
 
-exception-has : (e : List ℕ) (d : ℕ) → is_exception e d ≡ has d e
+pub exception-has : (e : List ℕ) (d : ℕ) → is_exception e d ≡ has d e
 unfolding is_exception has
 exception-has [] d = refl
 exception-has (x ∷ e) d = ap₂ ◌||◌ (eqb-flip x d) (exception-has e d)
@@ -120,7 +155,7 @@ module _ (w : ℕ → Bool) (d : ℕ) where
   one_more : d < days → days - d ≡ suc (days - (d + 1))
   one_more h = omega arith
 
-  pub next-hit : d < days → w d ≡ true → next_working w d ≡ On d
+  pub next-hit : d < days → w d ≡ true → next_working w d ≡ Some d
   unfolding first_working
   next-hit h e = rw (one_more h, e)
 
@@ -128,14 +163,14 @@ module _ (w : ℕ → Bool) (d : ℕ) where
   unfolding first_working
   next-miss h e = rw (one_more h, e)
 
-  pub next-none : days ≤ d → next_working w d ≡ NoDay
+  pub next-none : days ≤ d → next_working w d ≡ None
   unfolding first_working
   next-none h = let z : days - d ≡ 0 = omega arith in rw z
 
   one_less : 0 < d → d ≡ suc (d - 1)
   one_less h = omega arith
 
-  pub last-hit : 0 < d → w (d - 1) ≡ true → last_working w d ≡ On (d - 1)
+  pub last-hit : 0 < d → w (d - 1) ≡ true → last_working w d ≡ Some (d - 1)
   unfolding last_working
   last-hit h e = ap (last_working w) (one_less h) ∙ rw e
 
@@ -143,14 +178,14 @@ module _ (w : ℕ → Bool) (d : ℕ) where
   unfolding last_working
   last-miss h e = ap (last_working w) (one_less h) ∙ rw e
 
-  pub last_none : d ≤ 0 → last_working w d ≡ NoDay
+  pub last_none : d ≤ 0 → last_working w d ≡ None
   unfolding last_working
   last_none h = let z : d ≡ 0 = omega arith in rw z
 
 -- ---- what a search finds
 
 -- a day and no day differ
-pub on-no-day : {A : Type 0} {d : ℕ} → On d ≡ NoDay → A
+pub on-no-day : {A : Type 0} {d : ℕ} → Some d ≡ None → A
 on-no-day e = let z : ◌≡◌ {A = ℕ} 0 1 = cc in absurd (omega arith)
 
 -- a day that a search finds: a working day of the n days from d on, with none before it
@@ -175,12 +210,12 @@ each_from {P} d f p h k a b = go (dec_lt d k)
     go (no u) = let z : k ≡ d = omega arith in rw z p
 
 module _ (w : ℕ → Bool) where
-  pub first-of : (n d f : ℕ) → first_working w d n ≡ On f → First w d n f
+  pub first-of : (n d f : ℕ) → first_working w d n ≡ Some f → First w d n f
   unfolding first_working
   first-of zero d f e = on-no-day (sym e)
   first-of (suc n) d f e = go (w d) refl (first-of n (d + 1) f) e
     where
-      go : (t : Bool) → w d ≡ t → (first_working w (d + 1) n ≡ On f → First w (d + 1) n f) → cond t (On d) (first_working w (d + 1) n) ≡ On f → First w d (suc n) f
+      go : (t : Bool) → w d ≡ t → (first_working w (d + 1) n ≡ Some f → First w (d + 1) n f) → cond t (Some d) (first_working w (d + 1) n) ≡ Some f → First w d (suc n) f
       go true p ih q =
           let z : d ≡ f = cc in
           record { works = rw (← z) p; from = omega arith; below = omega arith; skips = λ k a b. absurd (omega arith) }
@@ -188,31 +223,31 @@ module _ (w : ℕ → Bool) where
           let r = ih q in
           record { works = r.works; from = omega arith; below = omega arith; skips = each_from d f p r.skips }
 
-  pub first-misses : (n d : ℕ) → first_working w d n ≡ NoDay → (k : ℕ) → d ≤ k → k < d + n → w k ≡ false
+  pub first-misses : (n d : ℕ) → first_working w d n ≡ None → (k : ℕ) → d ≤ k → k < d + n → w k ≡ false
   unfolding first_working
   first-misses zero d e = λ k a b. absurd (omega arith)
   first-misses (suc n) d e = go (w d) refl (first-misses n (d + 1)) e
     where
-      go : (t : Bool) → w d ≡ t → (first_working w (d + 1) n ≡ NoDay → (k : ℕ) → d + 1 ≤ k → k < d + 1 + n → w k ≡ false) → cond t (On d) (first_working w (d + 1) n) ≡ NoDay → (k : ℕ) → d ≤ k → k < d + suc n → w k ≡ false
+      go : (t : Bool) → w d ≡ t → (first_working w (d + 1) n ≡ None → (k : ℕ) → d + 1 ≤ k → k < d + 1 + n → w k ≡ false) → cond t (Some d) (first_working w (d + 1) n) ≡ None → (k : ℕ) → d ≤ k → k < d + suc n → w k ≡ false
       go true p ih q = on-no-day q
       go false p ih q = each_from d (d + suc n) p (λ k a b. ih q k a (omega arith))
 
   -- a working day with none before it is what the search finds
-  pub first-is : (n d f : ℕ) → d ≤ f → f < d + n → w f ≡ true → ((k : ℕ) → d ≤ k → k < f → w k ≡ false) → first_working w d n ≡ On f
+  pub first-is : (n d f : ℕ) → d ≤ f → f < d + n → w f ≡ true → ((k : ℕ) → d ≤ k → k < f → w k ≡ false) → first_working w d n ≡ Some f
   unfolding first_working
   first-is zero d f a b p h = absurd (omega arith)
   first-is (suc n) d f a b p h = go (dec_lt d f) (first-is n (d + 1) f)
     where
-      go : Dec (d < f) → (d + 1 ≤ f → f < d + 1 + n → w f ≡ true → ((k : ℕ) → d + 1 ≤ k → k < f → w k ≡ false) → first_working w (d + 1) n ≡ On f) → cond (w d) (On d) (first_working w (d + 1) n) ≡ On f
+      go : Dec (d < f) → (d + 1 ≤ f → f < d + 1 + n → w f ≡ true → ((k : ℕ) → d + 1 ≤ k → k < f → w k ≡ false) → first_working w (d + 1) n ≡ Some f) → cond (w d) (Some d) (first_working w (d + 1) n) ≡ Some f
       go (yes u) ih = rw (h d (omega arith) u) (ih (omega arith) (omega arith) p (λ k x y. h k (omega arith) y))
       go (no u) ih = let z : d ≡ f = omega arith in rw (z, p)
 
-  pub last_of : (d f : ℕ) → last_working w d ≡ On f → Last w d f
+  pub last_of : (d f : ℕ) → last_working w d ≡ Some f → Last w d f
   unfolding last_working
   last_of zero f e = on-no-day (sym e)
   last_of (suc d) f e = go (w d) refl (last_of d f) e
     where
-      go : (t : Bool) → w d ≡ t → (last_working w d ≡ On f → Last w d f) → cond t (On d) (last_working w d) ≡ On f → Last w (suc d) f
+      go : (t : Bool) → w d ≡ t → (last_working w d ≡ Some f → Last w d f) → cond t (Some d) (last_working w d) ≡ Some f → Last w (suc d) f
       go true p ih q =
           let z : d ≡ f = cc in
           record { works = rw (← z) p; below = omega arith; skips = λ k a b. absurd (omega arith) }
@@ -225,12 +260,12 @@ module _ (w : ℕ → Bool) where
           up_to k a (no u) h b = let z : k ≡ d = omega arith in rw z p
 
   -- where there is a working day before d, the last one is found, and not before it
-  pub last-finds : (d k : ℕ) → k < d → w k ≡ true → (l : ℕ) × ((last_working w d ≡ On l) × (k ≤ l))
+  pub last-finds : (d k : ℕ) → k < d → w k ≡ true → (l : ℕ) × ((last_working w d ≡ Some l) × (k ≤ l))
   unfolding last_working
   last-finds zero k h e = absurd (omega arith)
   last-finds (suc d) k h e = go (w d) refl (dec_lt k d) (last-finds d k)
     where
-      go : (t : Bool) → w d ≡ t → Dec (k < d) → (k < d → w k ≡ true → (l : ℕ) × ((last_working w d ≡ On l) × (k ≤ l))) → (l : ℕ) × ((cond t (On d) (last_working w d) ≡ On l) × (k ≤ l))
+      go : (t : Bool) → w d ≡ t → Dec (k < d) → (k < d → w k ≡ true → (l : ℕ) × ((last_working w d ≡ Some l) × (k ≤ l))) → (l : ℕ) × ((cond t (Some d) (last_working w d) ≡ Some l) × (k ≤ l))
       go true p u ih = (d, (refl, omega arith))
       go false p (yes u) ih = ih u e
       go false p (no u) ih = let z : k ≡ d = omega arith in absurd (false≢true (sym p ∙ rw (← z) e))
@@ -279,7 +314,7 @@ module _ (w : ℕ → Bool) where
       let ih = all-off-run n d (λ k a b. h k a (omega arith)) in
       omega (arith, ap (off_run w) z, run-off (d + n) (h (d + n) (omega arith) (omega arith)))
 
-  all-off-none : (n d : ℕ) → ((k : ℕ) → d ≤ k → k < d + n → w k ≡ false) → first_working w d n ≡ NoDay
+  pub all-off-none : (n d : ℕ) → ((k : ℕ) → d ≤ k → k < d + n → w k ≡ false) → first_working w d n ≡ None
   unfolding first_working
   all-off-none zero d h = refl
   all-off-none (suc n) d h = rw (h d (omega arith) (omega arith)) (all-off-none n (d + 1) (λ k a b. h k (omega arith) (omega arith)))
@@ -291,9 +326,9 @@ module _ (w : ℕ → Bool) where
   pub break-run : (d : ℕ) → off_run w (d + 15) ≤ 14 → is_long_break w d ≡ false
   break-run d h = go (first_working w d 15) refl
     where
-      go : (a : Day) → first_working w d 15 ≡ a → is_no_day a ≡ false
-      go (On f) e = refl
-      go NoDay e = absurd (omega (arith, all-off-run 15 d (first-misses w 15 d e)))
+      go : (a : Option ℕ) → first_working w d 15 ≡ a → is_no_day a ≡ false
+      go (Some f) e = refl
+      go None e = absurd (omega (arith, all-off-run 15 d (first-misses w 15 d e)))
 
   pub no-break-more : (d : ℕ) → is_long_break w d ≡ false → no_long_break w (d + 1) ≡ no_long_break w d
   unfolding no_long_break

@@ -1,7 +1,5 @@
 -- Working days: what document 01, 'Calendar and contract months', says of days.
-use Rattle.std.specs.Prelude.{Bool, true, false, ◌&&◌, ◌||◌, not, cond, List, [], ◌∷◌, ℕ, zero, suc, ◌+◌, ◌-◌, ◌%◌, min, eqb, ltb}
-use Rattle.days.specs.declared.Day.{Day}
-use Rattle.days.specs.declared.Day.TheVariants.{On, NoDay}
+use Rattle.std.specs.Prelude.{Bool, true, false, ◌&&◌, ◌||◌, not, cond, List, [], ◌∷◌, ℕ, zero, suc, ◌+◌, ◌-◌, ◌%◌, min, eqb, ltb, Option, Some, None}
 
 -- "Day 0 is Wednesday 2020-01-01; day 3,652 is 2029-12-31."
 abbrev pub days : ℕ
@@ -34,33 +32,33 @@ is_working exceptions d = cond (is_exception exceptions d) (is_weekend d) (not (
 -- ---- looking for a working day. `w` says which days are working
 
 -- the first working day of the n days from d on
-unfoldable pub first_working : (ℕ → Bool) → ℕ → ℕ → Day
-first_working w d zero = NoDay
-first_working w d (suc n) = cond (w d) (On d) (first_working w (d + 1) n)
+unfoldable pub first_working : (ℕ → Bool) → ℕ → ℕ → Option ℕ
+first_working w d zero = None
+first_working w d (suc n) = cond (w d) (Some d) (first_working w (d + 1) n)
 
 -- the next working day: the first from d on, if the calendar still has one
-abbrev pub next_working : (ℕ → Bool) → ℕ → Day
+abbrev pub next_working : (ℕ → Bool) → ℕ → Option ℕ
 next_working w d = first_working w d (days - d)
 
 -- the last working day below d
-unfoldable pub last_working : (ℕ → Bool) → ℕ → Day
-last_working w zero = NoDay
-last_working w (suc d) = cond (w d) (On d) (last_working w d)
+unfoldable pub last_working : (ℕ → Bool) → ℕ → Option ℕ
+last_working w zero = None
+last_working w (suc d) = cond (w d) (Some d) (last_working w d)
 
 -- the working day before d: the last of the calendar's days before it, if there is one
-abbrev pub working_before : (ℕ → Bool) → ℕ → Day
+abbrev pub working_before : (ℕ → Bool) → ℕ → Option ℕ
 working_before w d = last_working w (min d days)
 
 -- ---- the whole calendar
 
 -- whether an answer is that day
-abbrev pub is_on : ℕ → Day → Bool
-is_on d (On e) = eqb d e
-is_on d NoDay = false
+abbrev pub is_on : ℕ → Option ℕ → Bool
+is_on d (Some e) = eqb d e
+is_on d None = false
 
-abbrev pub is_no_day : Day → Bool
-is_no_day (On d) = false
-is_no_day NoDay = true
+abbrev pub is_no_day : Option ℕ → Bool
+is_no_day (Some d) = false
+is_no_day None = true
 
 -- "more than 14 days off running": of the 15 days from d on, none is working
 abbrev pub is_long_break : (ℕ → Bool) → ℕ → Bool

@@ -4,112 +4,64 @@
 // Exceptions are lent as a slice of days that rise. A caller tests that once, by `are_rising`.
 #![tactic(auto)]
 
-ghost use Rattle.std.specs.Prelude.{◌≡◌, true, min};
+ghost use Rattle.std.specs.Prelude.{◌≡◌, true};
 ghost use Rattle.days.specs.Days.{is_weekend, is_exception, rising, is_working, next_working, working_before, accepted};
-
-// A day of the calendar, or that there is none.
-#[derive(Clone, Copy)]
-pub enum Day {
-    On(u64),
-    NoDay,
-}
 
 // Whether each exception is later than the one before it.
 pub fn are_rising(exceptions: &[u64]) -> bool
     ensures { result ≡ rising exceptions.now }
 {
-    if exceptions.len() == 0 {
-        return true;
-    }
-    let mut last = exceptions[0];
-    let mut i: usize = 1;
-    while i < exceptions.len() {
-        let next = exceptions[i];
-        if next <= last {
-            return false;
-        }
-        last = next;
-        i += 1;
-    }
-    true
+    exceptions.is_sorted_by(|earlier, later| *earlier < *later)
 }
 
-// They rise, so no day past the last is among them, and the walk for any other stops at the first that is not smaller.
+// They rise, so a search by halves finds the day where it is among them.
 fn is_exception(exceptions: &[u64], day: u64) -> bool
     requires { rising exceptions.now ≡ true }
     ensures { result ≡ is_exception exceptions.now day }
 {
-    let count = exceptions.len();
-    if count == 0 {
-        return false;
-    }
-    if exceptions[count - 1] < day {
-        return false;
-    }
-    let mut i: usize = 0;
-    while exceptions[i] < day {
-        i += 1;
-    }
-    exceptions[i] == day
+    exceptions.binary_search(&day).is_ok()
 }
 
+#[tactic(auto, unfolding(crate::specs::Days::is_weekend))]
 fn is_weekend(day: u64) -> bool
     ensures { result ≡ is_weekend day }
 {
-    let from_wednesday = day % 7;
-    if from_wednesday == 3 {
-        return true;
-    }
-    from_wednesday == 4
+    matches!(day % 7, 3 | 4)
 }
 
 // Whether a day is working: an exception flips its day.
+#[tactic(auto, unfolding(crate::specs::Days::is_working))]
 pub fn is_working(exceptions: &[u64], day: u64) -> bool
     requires { rising exceptions.now ≡ true }
     ensures { result ≡ is_working exceptions.now day }
 {
     let off = is_weekend(day);
     if is_exception(exceptions, day) {
-        return off;
+        off
+    } else {
+        !off
     }
-    !off
 }
 
-// The first working day from `day` on.
-pub fn next_working(exceptions: &[u64], day: u64) -> Day
+// The first working day from `day` on, if the calendar still has one.
+pub fn next_working(exceptions: &[u64], day: u64) -> Option<u64>
     requires { rising exceptions.now ≡ true }
     ensures { result ≡ next_working (is_working exceptions.now) day }
 {
-    let mut d = day;
-    while d < 3653 {
-        if is_working(exceptions, d) {
-            return Day::On(d);
-        }
-        d += 1;
-    }
-    Day::NoDay
+    (day..3653).find(|d| is_working(exceptions, *d))
 }
 
-// Searches backwards begin at the calendar's end at the latest.
-fn at_most_end(day: u64) -> u64
-    ensures { result ≡ min day 3653 }
-{
-    if day < 3653 { day } else { 3653 }
-}
-
-// The last working day before `day`.
-pub fn working_before(exceptions: &[u64], day: u64) -> Day
+// The last working day before `day`, if the calendar has one. The search begins at the calendar's end at the latest.
+pub fn working_before(exceptions: &[u64], day: u64) -> Option<u64>
     requires { rising exceptions.now ≡ true }
     ensures { result ≡ working_before (is_working exceptions.now) day }
 {
-    let mut earlier = at_most_end(day);
-    while 0 < earlier {
-        earlier -= 1;
+    for earlier in (0..day.min(3653)).rev() {
         if is_working(exceptions, earlier) {
-            return Day::On(earlier);
+            return Some(earlier);
         }
     }
-    Day::NoDay
+    None
 }
 
 // Whether no more than 14 days off run anywhere in the calendar.
@@ -118,8 +70,7 @@ pub fn is_accepted(exceptions: &[u64]) -> bool
     ensures { result ≡ accepted (is_working exceptions.now) }
 {
     let mut run: u64 = 0;
-    let mut counted: u64 = 0;
-    while counted < 3653 {
+    for counted in 0..3653 {
         if is_working(exceptions, counted) {
             run = 0;
         } else {
@@ -128,7 +79,6 @@ pub fn is_accepted(exceptions: &[u64]) -> bool
         if 14 < run {
             return false;
         }
-        counted += 1;
     }
     true
 }

@@ -1,5 +1,5 @@
 -- A trade between two members, from what is loaded to what is stored.
-use Rattle.std.specs.Prelude.{◌≡◌, List, ℕ, ◌+◌, ◌<◌, ℤ, length, set}
+use Rattle.std.specs.Prelude.{◌≡◌, List, ℕ, ◌+◌, ◌<◌, ℤ, length, set, Result}
 use Rattle.std.proofs.Common.{sym, ap, ap₂, ◌∙◌, subst, arith}
 use Rattle.std.proofs.lemmas.List.{length-map}
 use Rattle.lists.specs.PaddedLaws.{padded-length}
@@ -29,6 +29,7 @@ use Rattle.standing.specs.MemberLaws.{listed-row, member-account}
 use Rattle.standing.specs.DealLaws.{Stands, held-sound, account-after, contract-after, traded-rows}
 use Rattle.hours.specs.Clocked.{clocked, rows_written}
 use Rattle.dealing.specs.declared.Dealt.{Dealt}
+use Rattle.refusals.specs.declared.Refusal.{Refusal}
 use Rattle.dealing.specs.Sides.{Moved, judged}
 use Rattle.dealing.specs.Parties.{Answers, Deals}
 use Rattle.dealing.specs.Written.{traded_row, Writable, Written}
@@ -83,7 +84,7 @@ module _ {c : List ℕ} {m : List ℤ} {h : Header} {t : Trade} {k i j : ℕ} (d
         ap₂ (λ (a : Account) lots. with_holdings a (with_trade a.holdings k lots t.rate)) (e ∙ account-in) (sym l)
         ∙ sym (account-after g d.ready.between n)
 
-  pub answers : {r : Dealt} {margins : List ℕ} {buyer bought seller sold : Account} → r ≡ judged margins k buyer bought seller sold
+  pub answers : {r : Result Dealt Refusal} {margins : List ℕ} {buyer bought seller sold : Account} → r ≡ judged margins k buyer bought seller sold
       → margins ≡ margins_of book → buyer ≡ account_row book t.buyer → bought ≡ account_row next t.buyer
       → seller ≡ account_row book t.seller → sold ≡ account_row next t.seller → Answers book t r
   answers q ms a x e y = rw (q, ms, a, x, e, y) (judged-answers g d.ready)

@@ -1,5 +1,5 @@
 -- A trade's answer is the model's, and so is the memory after it.
-use Rattle.std.specs.Prelude.{◌≡◌, Bool, not, cond, List, [], ◌∷◌, ℕ, zero, suc, ℤ}
+use Rattle.std.specs.Prelude.{◌≡◌, Bool, not, cond, List, [], ◌∷◌, ℕ, zero, suc, ℤ, Ok, Err}
 use Rattle.std.proofs.Math.Path.{refl}
 use Rattle.std.proofs.Common.{sym, ap, ap₂, ◌∙◌, arith}
 use Rattle.std.proofs.Math.Bool.{true, false}
@@ -19,7 +19,10 @@ use Rattle.standing.specs.Standing.{account_row, rows_of, view}
 use Rattle.standing.specs.Made.{decided, Sound}
 use Rattle.standing.specs.StandingLaws.{sound-holds}
 use Rattle.standing.specs.DealLaws.{side-is}
-use Rattle.dealing.specs.declared.Dealt.TheVariants.{Refused, Accepted}
+use Rattle.refusals.specs.Refusals.{number_of}
+use Rattle.refusals.specs.declared.Refusal.{Refusal}
+use Rattle.refusals.specs.declared.Refusal.TheVariants.{InDefault}
+use Rattle.dealing.specs.declared.Dealt.{Dealt}
 use Rattle.dealing.specs.Dealing.{answer_of, Traded}
 use Rattle.dealing.specs.Sides.{weighed, judged}
 use Rattle.dealing.specs.Parties.{Answers, Ready}
@@ -28,7 +31,7 @@ use Rattle.dealing.specs.PartiesLaws.{by-sides}
 -- ---- what the two sides say is what the last six tests find
 module _ (b : Book) (t : Trade) where
   tested : (in_default defaults beyond further over above : Bool)
-      → answer_of (cond in_default (Refused 12) (cond defaults (Refused 12) (weighed
+      → answer_of (cond in_default (Err InDefault) (cond defaults (Err InDefault) (weighed
       (cond beyond Beyond (cond over (Over (side_totals b t t.buyer)) (Passes (side_totals b t t.buyer))))
       (cond further Beyond (cond above (Over (side_totals b t t.seller)) (Passes (side_totals b t t.seller)))))))
       ≡ answered (first_of (
@@ -51,7 +54,7 @@ module _ {b : Book} {t : Trade} {k i j : ℕ} (g : Kept b) (r : Ready b t k i j)
   judged-answers =
       let buys = (b.accounts.funds t.buyer).flag in
       let sells = (b.accounts.funds t.seller).flag in
-      ap₂ (λ x y. answer_of (cond buys (Refused 12) (cond sells (Refused 12) (weighed x y))))
+      ap₂ (λ x y. answer_of (cond buys (Err InDefault) (cond sells (Err InDefault) (weighed x y))))
       (side-is g r.between t.buyer) (side-is g r.between t.seller)
       ∙ tested b t buys sells
       (is_beyond ((traded b t).accounts.position t.buyer t.code)) (is_beyond ((traded b t).accounts.position t.seller t.code))
@@ -69,9 +72,9 @@ accepted-keeps b t x y zero e = refl
 accepted-keeps b t x y (suc d) e = absurd (omega (arith, ap (λ a. (refusal_of a).number) e, refusing-number b (suc d)))
 
 module _ {c : List ℕ} {m : List ℤ} (s : Sound c m) {t : Trade} where
-  pub refused-traded : {n : ℕ} → Answers (view c m) t (Refused n) → Traded c m t (Refused n) c m
-  refused-traded {n} a = record { answers = a; memory = rw (refused-keeps (view c m) t n (decided (view c m) (trade t)) a) (sound-holds s) }
+  pub refused-traded : (r : Refusal) → Answers (view c m) t (Err r) → Traded c m t (Err r) c m
+  refused-traded r a = record { answers = a; memory = rw (refused-keeps (view c m) t (number_of r) (decided (view c m) (trade t)) a) (sound-holds s) }
 
-  pub accepted-traded : {c' : List ℕ} {m' : List ℤ} {x y : Totals} → Answers (view c m) t (Accepted x y)
-      → Holds c' m' (rows_of (traded (view c m) t)) → Traded c m t (Accepted x y) c' m'
-  accepted-traded {x = x} {y = y} a h = record { answers = a; memory = rw (accepted-keeps (view c m) t x y (decided (view c m) (trade t)) a) h }
+  pub accepted-traded : {c' : List ℕ} {m' : List ℤ} {d : Dealt} → Answers (view c m) t (Ok d)
+      → Holds c' m' (rows_of (traded (view c m) t)) → Traded c m t (Ok d) c' m'
+  accepted-traded {d = d} a h = record { answers = a; memory = rw (accepted-keeps (view c m) t d.buyer d.seller (decided (view c m) (trade t)) a) h }

@@ -1,5 +1,5 @@
 -- What is found of a trade before its two sides are asked: the rows of its contract, buyer and seller, or its refusal.
-use Rattle.std.specs.Prelude.{◌≡◌, true, List, ℕ, ◌≤◌, ◌<◌, leb, ℤ, length}
+use Rattle.std.specs.Prelude.{◌≡◌, true, List, ℕ, ◌≤◌, ◌<◌, leb, ℤ, length, Result, Ok, Err}
 use Rattle.memory.specs.declared.header_row.Header.{Header}
 use Rattle.memory.specs.Layout.{counts_long, header_at}
 use Rattle.memory.specs.Memory.{Holds}
@@ -13,9 +13,8 @@ use Rattle.standing.specs.Standing.{header_row, rows_of, view}
 use Rattle.standing.specs.Made.{Sound, decided}
 use Rattle.standing.specs.DealLaws.{Between}
 use Rattle.dealing.specs.declared.Dealt.{Dealt}
-use Rattle.dealing.specs.declared.Dealt.TheVariants.{Refused}
 use Rattle.dealing.specs.declared.parties.Parties.{Parties}
-use Rattle.dealing.specs.declared.parties.Parties.TheVariants as parties
+use Rattle.refusals.specs.declared.Refusal.{Refusal}
 use Rattle.dealing.specs.Dealing.{answer_of}
 
 -- counts with room for the rows that their header tells of
@@ -26,7 +25,7 @@ pub record Headed (counts : List ℕ) (h : Header) : Type 0 where
   pub header : h ≡ header_at counts
 
 -- an answer that is the model's
-abbrev pub Answers : Book → Trade → Dealt → Type 0
+abbrev pub Answers : Book → Trade → Result Dealt Refusal → Type 0
 Answers b t r = answer_of r ≡ answered (decided b (trade t)) b (trade t)
 
 -- a trade that is refused for none of 3, 8, 5, 11, 10, 9 and 16
@@ -36,12 +35,12 @@ pub record Ready (b : Book) (t : Trade) (k i j : ℕ) : Type 0 where
   pub clock : leb b.today.clock t.time ≡ true
   pub room : b.today.trades < 10000
 
-abbrev Found : Book → Trade → Parties → Type 0
-Found b t (parties.Found k i j) = Ready b t k i j
-Found b t (parties.Refused number) = Answers b t (Refused number)
+abbrev Found : Book → Trade → Result Parties Refusal → Type 0
+Found b t (Ok rows) = Ready b t rows.contract rows.buyer rows.seller
+Found b t (Err refusal) = Answers b t (Err refusal)
 
 -- whatever book the counts are of
-abbrev pub PartiesOf : List ℕ → Trade → Parties → Type 0
+abbrev pub PartiesOf : List ℕ → Trade → Result Parties Refusal → Type 0
 PartiesOf counts t r = (b : Book) (money : List ℤ) → Kept b → Holds counts money (rows_of b) → Found b t r
 
 -- such a trade, in range, with a sound memory and its header

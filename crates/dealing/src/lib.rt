@@ -19,9 +19,9 @@ pub struct Deal {
     pub rate: i64,
 }
 
-// What a trade answers: the number of its refusal, or the buyer's and the seller's total before, total after and limit.
+// What an accepted trade answers: the total before, the total after and the limit of each side.
 #[derive(Clone, Copy)]
-pub enum Dealt {
-    Refused(u64),
-    Accepted(Totals, Totals),
+pub struct Dealt {
+    pub buyer: Totals,
+    pub seller: Totals,
 }

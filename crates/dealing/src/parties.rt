@@ -4,43 +4,50 @@ ghost use Rattle.dealing.specs.Parties.{Headed, PartiesOf};
 
 use crate::Deal;
 use hours::{in_hours, is_open};
-use lists::Found;
 use memory::{Header, find_account, find_contract};
+use refusals::Refusal;
 
-// The rows of a trade's contract, buyer and seller, or the number of its refusal: 3, 8, 5, 11, 10, 9 or 16, in this order.
+// The rows of a trade's contract, buyer and seller.
 #[derive(Clone, Copy)]
-pub(crate) enum Parties {
-    Found(usize, usize, usize),
-    Refused(u64),
+pub(crate) struct Parties {
+    pub(crate) contract: usize,
+    pub(crate) buyer: usize,
+    pub(crate) seller: usize,
 }
 
-pub(crate) fn parties_of(counts: &[u64], h: Header, t: Deal) -> Parties
+// They are found, or the trade is refused as NotNow, NotListed, UnknownAccount, BuyerIsSeller, OutOfHours, TooEarly or NoRoom, in
+// this order.
+pub(crate) fn parties_of(counts: &[u64], h: Header, t: Deal) -> Result<Parties, Refusal>
     requires { Headed counts.now h }
     ensures { PartiesOf counts.now (trade_of t) result }
 {
     if !is_open(h.point) {
-        return Parties::Refused(3);
+        return Err(Refusal::NotNow);
     }
-    let Found::At(k) = find_contract(counts, t.code) else {
-        return Parties::Refused(8);
+    let Some(contract) = find_contract(counts, t.code) else {
+        return Err(Refusal::NotListed);
     };
-    let Found::At(i) = find_account(counts, t.buyer) else {
-        return Parties::Refused(5);
+    let Some(buyer) = find_account(counts, t.buyer) else {
+        return Err(Refusal::UnknownAccount);
     };
-    let Found::At(j) = find_account(counts, t.seller) else {
-        return Parties::Refused(5);
+    let Some(seller) = find_account(counts, t.seller) else {
+        return Err(Refusal::UnknownAccount);
     };
     if t.buyer == t.seller {
-        return Parties::Refused(11);
+        return Err(Refusal::BuyerIsSeller);
     }
     if !in_hours(t.time) {
-        return Parties::Refused(10);
+        return Err(Refusal::OutOfHours);
     }
     if t.time < h.clock {
-        return Parties::Refused(9);
+        return Err(Refusal::TooEarly);
     }
     if 10000 <= h.trades {
-        return Parties::Refused(16);
+        return Err(Refusal::NoRoom);
     }
-    Parties::Found(k, i, j)
+    Ok(Parties {
+        contract,
+        buyer,
+        seller,
+    })
 }

@@ -10,6 +10,7 @@ ghost use Rattle.dealing.specs.Sides.{Moved, weighed, judged};
 use crate::Dealt;
 use accounts::Account;
 use holdings::{Side, side_of, with_trade};
+use refusals::Refusal;
 
 // An account with lots bought, or sold where below 0, at a rate.
 pub(crate) fn with_lots(a: Account, row: usize, lots: i64, rate: i64) -> Account
@@ -22,26 +23,18 @@ pub(crate) fn with_lots(a: Account, row: usize, lots: i64, rate: i64) -> Account
 }
 
 // What both sides say together.
-fn weigh(buyer: Side, seller: Side) -> Dealt
+fn weigh(buyer: Side, seller: Side) -> Result<Dealt, Refusal>
     ensures { result ≡ weighed buyer seller }
 {
-    match buyer {
-        Side::Beyond => Dealt::Refused(13),
-        Side::Over(_) => match seller {
-            Side::Beyond => Dealt::Refused(13),
-            Side::Over(_) => Dealt::Refused(14),
-            Side::Passes(_) => Dealt::Refused(14),
-        },
-        Side::Passes(bought) => match seller {
-            Side::Beyond => Dealt::Refused(13),
-            Side::Over(_) => Dealt::Refused(14),
-            Side::Passes(sold) => Dealt::Accepted(bought, sold),
-        },
+    match (buyer, seller) {
+        (Side::Beyond, _) | (_, Side::Beyond) => Err(Refusal::NetTooLarge),
+        (Side::Over(_), _) | (_, Side::Over(_)) => Err(Refusal::OverLimit),
+        (Side::Passes(buyer), Side::Passes(seller)) => Ok(Dealt { buyer, seller }),
     }
 }
 
-// What a trade in the contract of a row answers, from the accounts of both sides before and after it: refusal 12, 13 or 14, in
-// this order, or both totals.
+// What a trade in the contract of a row answers, from the accounts of both sides before and after it: refused as InDefault,
+// NetTooLarge or OverLimit, in this order, or both totals.
 pub(crate) fn judge(
     buyer: Account,
     bought: Account,
@@ -49,15 +42,15 @@ pub(crate) fn judge(
     sold: Account,
     row: usize,
     margins: [u64; 6],
-) -> Dealt
+) -> Result<Dealt, Refusal>
     requires { Moved buyer bought × (Moved seller sold × ((row < 6) × Margins margins)) }
     ensures { result ≡ judged margins row buyer bought seller sold }
 {
     if buyer.funds.flag {
-        return Dealt::Refused(12);
+        return Err(Refusal::InDefault);
     }
     if seller.funds.flag {
-        return Dealt::Refused(12);
+        return Err(Refusal::InDefault);
     }
     let buys = side_of(buyer.holdings, bought.holdings, row, margins);
     let sells = side_of(seller.holdings, sold.holdings, row, margins);

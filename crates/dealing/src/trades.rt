@@ -12,6 +12,7 @@ use memory::{
     Header, load_account, load_contract, load_header, load_margins, store_account, store_contract,
     store_header,
 };
+use refusals::Refusal;
 use tallies::with_trade;
 
 // A trade in the contract's tally, and in the header's clock and number of trades.
@@ -28,44 +29,37 @@ fn write_trade(counts: &mut [u64], money: &mut [i64], h: Header, t: Deal, k: usi
     store_contract(&mut *counts, &mut *money, k, x);
 }
 
-// A trade in the contract of row k between the accounts of rows i and j: refused 12, 13 or 14, or done.
+// A trade in the contract and between the accounts of these rows: refused as InDefault, NetTooLarge or OverLimit, or done.
 fn trade_between(
     counts: &mut [u64],
     money: &mut [i64],
     h: Header,
     t: Deal,
-    k: usize,
-    i: usize,
-    j: usize,
-) -> Dealt
-    requires { Deals counts.old money.old h (trade_of t) k i j }
+    rows: Parties,
+) -> Result<Dealt, Refusal>
+    requires { Deals counts.old money.old h (trade_of t) rows.contract rows.buyer rows.seller }
     ensures { Traded counts.old money.old (trade_of t) result counts.new money.new }
 {
     let lots = t.lots as i64;
     let rate = t.rate;
-    let buyer = load_account(&counts[..], &money[..], i);
-    let seller = load_account(&counts[..], &money[..], j);
+    let buyer = load_account(&counts[..], &money[..], rows.buyer);
+    let seller = load_account(&counts[..], &money[..], rows.seller);
     let margins = load_margins(&counts[..]);
-    let bought = with_lots(buyer, k, lots, rate);
-    let sold = with_lots(seller, k, 0 - lots, rate);
-    let answer = judge(buyer, bought, seller, sold, k, margins);
-    let Dealt::Accepted(_, _) = answer else {
-        return answer;
-    };
-    store_account(&mut *counts, &mut *money, i, bought);
-    store_account(&mut *counts, &mut *money, j, sold);
-    write_trade(&mut *counts, &mut *money, h, t, k);
-    answer
+    let bought = with_lots(buyer, rows.contract, lots, rate);
+    let sold = with_lots(seller, rows.contract, 0 - lots, rate);
+    let dealt = judge(buyer, bought, seller, sold, rows.contract, margins)?;
+    store_account(&mut *counts, &mut *money, rows.buyer, bought);
+    store_account(&mut *counts, &mut *money, rows.seller, sold);
+    write_trade(&mut *counts, &mut *money, h, t, rows.contract);
+    Ok(dealt)
 }
 
 // A trade: refused, and nothing is changed, or done.
-pub fn trade(counts: &mut [u64], money: &mut [i64], t: Deal) -> Dealt
+pub fn trade(counts: &mut [u64], money: &mut [i64], t: Deal) -> Result<Dealt, Refusal>
     requires { Sound counts.old money.old × GoodTrade (trade_of t) }
     ensures { Traded counts.old money.old (trade_of t) result counts.new money.new }
 {
     let h = load_header(&counts[..]);
-    match parties_of(&counts[..], h, t) {
-        Parties::Refused(number) => Dealt::Refused(number),
-        Parties::Found(k, i, j) => trade_between(&mut *counts, &mut *money, h, t, k, i, j),
-    }
+    let rows = parties_of(&counts[..], h, t)?;
+    trade_between(&mut *counts, &mut *money, h, t, rows)
 }

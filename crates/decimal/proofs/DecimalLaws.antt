@@ -1,12 +1,11 @@
 -- The text of a number: it is what its digits, counted out, spell, a reader takes it for the number again, and no zero stands in front.
-use Rattle.std.specs.Prelude.{◌≡◌, refl, ◌&&◌, List, [], ◌∷◌, ◌++◌, ℕ, zero, suc, ◌+◌, ◌*◌, ◌/◌, ◌%◌, ◌^◌, ◌≤◌, ◌<◌, leb, ltb, ℤ, pos, negsuc, neg_ℤ, get_or}
+use Rattle.std.specs.Prelude.{◌≡◌, refl, ◌&&◌, List, [], ◌∷◌, ◌++◌, ℕ, zero, suc, ◌+◌, ◌*◌, ◌/◌, ◌%◌, ◌^◌, ◌≤◌, ◌<◌, leb, ltb, ℤ, pos, negsuc, neg_ℤ, get_or, Some, None}
 use Rattle.std.proofs.Common.{sym, ap, ◌∙◌, mod-eq_of_lt, pow-suc, arith, ltb-true, ltb-false, lt-ltb, le-ltb, le-leb, ne_eqb, SFits}
 use Rattle.std.proofs.Math.Nat.{one-le-pow}
 use Rattle.std.proofs.Math.Numerals.{unary_clauses}
 use Rattle.std.specs.Int.{w64}
 use Rattle.lists.specs.HasLaws.{by_test, when_true, when_false}
 use Rattle.scan.specs.Text.{is_digit, most, with_digit, number_from, number_in}
-use Rattle.scan.specs.declared.Number.TheVariants.{Of, NoNumber}
 use Rattle.decimal.specs.Digits.{last_digits, IsDigitCount}
 use Rattle.decimal.specs.Decimal.{digit, digits_in, numeral, minus, signed_numeral, signed, taken_as, signed_in}
 
@@ -42,32 +41,32 @@ pub spelled : (k n : ℕ) → n ≤ most → IsDigitCount n k → last_digits k 
 spelled k n h = spelled-in k 19 n (omega arith)
 
 -- ---- the number is read back
-number_behind : (xs ys : List ℕ) (a n : ℕ) → number_from a xs ≡ Of n → number_from a (xs ++ ys) ≡ number_from n ys
+number_behind : (xs ys : List ℕ) (a n : ℕ) → number_from a xs ≡ Some n → number_from a (xs ++ ys) ≡ number_from n ys
 unfolding number_from
 number_behind [] ys a n e = let same : a ≡ n = cc in ap (λ m. number_from m ys) same
 number_behind (x ∷ xs) ys a n e = by_test (is_digit x && leb (with_digit a x) most)
     (λ t. when_true _ _ t ∙ number_behind xs ys (with_digit a x) n (sym (when_true _ _ t) ∙ e))
-    (λ t. let never : NoNumber ≡ Of n = sym (when_false _ _ t) ∙ e in let z : ◌≡◌ {A = ℕ} 0 1 = cc in absurd (omega arith))
+    (λ t. let never : None ≡ Some n = sym (when_false _ _ t) ∙ e in let z : ◌≡◌ {A = ℕ} 0 1 = cc in absurd (omega arith))
 
-number-digit : (a d : ℕ) → d < 10 → 10 * a + d ≤ most → number_from a (digit d ∷ []) ≡ Of (10 * a + d)
+number-digit : (a d : ℕ) → d < 10 → 10 * a + d ≤ most → number_from a (digit d ∷ []) ≡ Some (10 * a + d)
 unfolding number_from
 number-digit a d h k =
     rw (le-leb 48 (48 + d) (omega arith), le-leb (48 + d) 57 (omega arith), le-leb (with_digit a (digit d)) most (omega arith))
-    (ap Of (omega arith))
+    (ap Some (omega arith))
 
-digits-read : (places n : ℕ) → n < 10 ^ places → n ≤ most → number_in (digits_in places n) ≡ Of n
+digits-read : (places n : ℕ) → n < 10 ^ places → n ≤ most → number_in (digits_in places n) ≡ Some n
 unfolding number_from digits_in
-digits-read zero n h k = ap Of (omega arith)
+digits-read zero n h k = ap Some (omega arith)
 digits-read (suc places) n h k = by_ten n
-    (λ small. rw (digits-one places n small) (number-digit 0 n small (omega arith) ∙ ap Of (omega arith)))
+    (λ small. rw (digits-one places n small) (number-digit 0 n small (omega arith) ∙ ap Some (omega arith)))
     (λ tens.
     let first = digits_in places (n / 10) in
-    let read : number_in first ≡ Of (n / 10) = digits-read places (n / 10) (omega (arith, pow-suc 10 places)) (omega arith) in
+    let read : number_in first ≡ Some (n / 10) = digits-read places (n / 10) (omega (arith, pow-suc 10 places)) (omega arith) in
     rw (digits_more places n tens) (number_behind first (digit (n % 10) ∷ []) 0 (n / 10) read)
     ∙ number-digit (n / 10) (n % 10) (omega arith) (omega arith)
-    ∙ ap Of (omega arith))
+    ∙ ap Some (omega arith))
 
-pub numeral_reads : (n : ℕ) → n ≤ most → number_in (numeral n) ≡ Of n
+pub numeral_reads : (n : ℕ) → n ≤ most → number_in (numeral n) ≡ Some n
 numeral_reads n h = digits-read 20 n (omega arith) h
 
 -- ---- the first digit: it is 0 for no other number than 0

@@ -1,8 +1,6 @@
 -- Numbers as text: decimal digits, shortest form; and what a reader takes a signed text for.
-use Rattle.std.specs.Prelude.{cond, List, [], ◌∷◌, ◌++◌, ℕ, zero, suc, ◌+◌, ◌/◌, ◌%◌, ltb, eqb, ℤ, pos, negsuc, neg_ℤ, get_or, drop}
+use Rattle.std.specs.Prelude.{cond, List, [], ◌∷◌, ◌++◌, ℕ, zero, suc, ◌+◌, ◌/◌, ◌%◌, ltb, eqb, ℤ, pos, negsuc, neg_ℤ, get_or, drop, Option, Some, None}
 use Rattle.scan.specs.Text.{number_in}
-use Rattle.scan.specs.declared.Number.{Number}
-use Rattle.scan.specs.declared.Number.TheVariants.{Of, NoNumber}
 
 -- the digit d, 0 to 9, is the byte 48 + d
 abbrev pub digit : ℕ → ℕ
@@ -32,9 +30,9 @@ pub data Taken : Type 0 where
   signed : ℤ → Taken
   none : Taken
 
-abbrev pub taken_as : (ℕ → ℤ) → Number → Taken
-taken_as sign (Of n) = signed (sign n)
-taken_as sign NoNumber = none
+abbrev pub taken_as : (ℕ → ℤ) → Option ℕ → Taken
+taken_as sign (Some n) = signed (sign n)
+taken_as sign None = none
 
 -- a number as `scan::number_in` reads it, or one below zero behind a minus sign
 abbrev pub signed_in : List ℕ → Taken

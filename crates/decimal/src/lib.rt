@@ -15,25 +15,18 @@ pub fn put_word(room: &mut [u8], at: usize, word: &[u8]) -> usize
     requires { at + length word.now ≤ length room.old }
     ensures { Put room.old at word.now result room.new }
 {
-    let mut done: usize = 0;
-    while done < word.len() {
-        room[at + done] = word[done];
-        done += 1;
-    }
-    at + done
+    let after = at + word.len();
+    room[at..after].copy_from_slice(word);
+    after
 }
 
 // How many digits a number has.
 fn digit_count(number: u64) -> usize
     ensures { IsDigitCount number result }
 {
-    let mut count: usize = 1;
-    let mut rest = number / 10;
-    while 0 < rest {
-        rest /= 10;
-        count += 1;
-    }
-    count
+    number
+        .checked_ilog10()
+        .map_or(1, |power| power as usize + 1)
 }
 
 // Puts so many of a number's last digits at the front of a room.
@@ -42,10 +35,8 @@ fn put_digits(number: u64, count: usize, room: &mut [u8])
     ensures digits { take count room.new ≡ last_digits count number }
     ensures rest { drop count room.new ≡ drop count room.old }
 {
-    let mut left = count;
     let mut rest = number;
-    while 0 < left {
-        left -= 1;
+    for left in (0..count).rev() {
         room[left] = b'0' + (rest % 10) as u8;
         rest /= 10;
     }

@@ -1,10 +1,8 @@
 -- The number that a loop reads: `value` is made of the groups passed, `scale` is what the next one counts.
-use Rattle.std.specs.Prelude.{◌≡◌, refl, Bool, true, false, cond, ◌&&◌, List, ◌∷◌, ℕ, suc, ◌+◌, ◌*◌, ◌-◌, ◌^◌, ◌≤◌, ◌<◌, ltb, length, get_or, drop}
+use Rattle.std.specs.Prelude.{◌≡◌, refl, Bool, true, false, cond, ◌&&◌, List, ◌∷◌, ℕ, ◌+◌, ◌*◌, ◌-◌, ◌^◌, ◌≤◌, ◌<◌, ltb, length, get_or, drop, Option, Some, None}
 use Rattle.std.proofs.Common.{ap, ◌∙◌, mul_assoc, add-mul, mul_comm, mul-le-mul, pow-suc, add-one, arith, lit<, drop_of_length-le, length-drop, drop-cons, lt-ltb, le-ltb}
 use Rattle.std.proofs.Math.Nat.{pow-le-pow_right}
 use Rattle.std.proofs.Math.Decide.{dec_lt}
-use Rattle.decoding.specs.declared.Number.{Number}
-use Rattle.decoding.specs.declared.Number.TheVariants.{Value, Bad}
 use Rattle.numbers.specs.Seven.{Got, none, got, before, unbounded, bounded, decode}
 use Rattle.numbers.specs.SevenLaws.{unbounded-last, unbounded-more}
 use Rattle.decoding.specs.Place.{placed, number_at}
@@ -14,8 +12,8 @@ abbrev pub Scale : ℕ → Type 0
 Scale scale = (k : ℕ) × (k ≤ 9) × (scale ≡ 128 ^ k)
 
 -- a number's end: its last group is not zero, and the number has 64 bits
-abbrev pub last_group : ℕ → ℕ → ℕ → ℕ → Number
-last_group value scale group next = cond (ltb 0 group && ltb (value + group * scale) (2 ^ 64)) (Value (value + group * scale) next) Bad
+abbrev pub last_group : ℕ → ℕ → ℕ → ℕ → Option (ℕ × ℕ)
+last_group value scale group next = cond (ltb 0 group && ltb (value + group * scale) (2 ^ 64)) (Some (value + group * scale, next)) None
 
 -- what the whole number is, by what the higher groups are: these are not zero
 abbrev pub onward : ℕ → ℕ → Got → Got
@@ -59,11 +57,11 @@ module _ (s : List ℕ) (i : ℕ) where
   next : i < length s → drop i s ≡ get_or s i 0 ∷ drop (i + 1) s
   next h = rw (add-one, drop-cons s i 0 h)
 
-  pub at-end : length s ≤ i → number_at s i ≡ Bad
+  pub at-end : length s ≤ i → number_at s i ≡ None
   unfolding unbounded
   at-end h = rw (drop_of_length-le s h)
 
-  pub at_one : i < length s → get_or s i 0 < 128 → number_at s i ≡ Value (get_or s i 0) (i + 1)
+  pub at_one : i < length s → get_or s i 0 < 128 → number_at s i ≡ Some (get_or s i 0, i + 1)
   at_one h p = rw (next h, unbounded-last (get_or s i 0) (drop (i + 1) s) p, lt-ltb (get_or s i 0) (2 ^ 64) (omega arith), after h)
 
   pub at_more : i < length s → 128 ≤ get_or s i 0 → decode (drop i s) ≡ onward (get_or s i 0 - 128) 128 (unbounded (drop (i + 1) s))
@@ -83,8 +81,8 @@ module _ (s : List ℕ) (i : ℕ) where
   pub step-last : (v sc : ℕ) → i < length s → get_or s i 0 < 128 → placed s (onward v sc (unbounded (drop i s))) ≡ last_group v sc (get_or s i 0) (i + 1)
   step-last v sc h p = rw (next h, unbounded-last (get_or s i 0) (drop (i + 1) s) p) (go (ltb 0 (get_or s i 0)) (ltb (v + get_or s i 0 * sc) (2 ^ 64)))
     where
-      go : (t u : Bool) → placed s (cond t (cond u (got (v + get_or s i 0 * sc) (drop (i + 1) s)) none) none) ≡ cond (t && u) (Value (v + get_or s i 0 * sc) (i + 1)) Bad
-      go true true = ap (Value (v + get_or s i 0 * sc)) (after h)
+      go : (t u : Bool) → placed s (cond t (cond u (got (v + get_or s i 0 * sc) (drop (i + 1) s)) none) none) ≡ cond (t && u) (Some (v + get_or s i 0 * sc, i + 1)) None
+      go true true = ap (λ z. Some (v + get_or s i 0 * sc, z)) (after h)
       go true false = refl
       go false u = refl
 
@@ -92,25 +90,19 @@ module _ (s : List ℕ) (i : ℕ) where
 powers-under : (k : ℕ) → k ≤ 8 → 128 ^ k ≤ 2 ^ 56
 powers-under k h = pow-le-pow_right {n = 128} (lit< tt) h
 
-module _ (i at sc : ℕ) (e : sc ≡ 128 ^ (i - at)) where
-  pub scale-top : i ≡ at + 9 → sc ≡ 2 ^ 63
-  scale-top h = let z : i - at ≡ 9 = omega arith in e ∙ ap (λ k. 128 ^ k) z
+pub scale-more : (k sc : ℕ) → sc ≡ 128 ^ k → sc * 128 ≡ 128 ^ (k + 1)
+scale-more k sc e = rw (add-one k, pow-suc 128 k, e)
 
-  pub scale-short : i ≤ at + 9 → (i ≡ at + 9 → ⊥) → sc ≤ 2 ^ 56
-  scale-short h ne = rw e (powers-under (i - at) (omega arith))
-
-  pub scale-is : i ≤ at + 9 → Scale sc
-  scale-is h = (i - at, omega arith, e)
-
-  pub scale-more : at ≤ i → sc * 128 ≡ 128 ^ (i + 1 - at)
-  scale-more h = let z : i + 1 - at ≡ suc (i - at) = omega arith in rw (z, pow-suc 128 (i - at), e)
+-- a group that is not the tenth is one of the nine before it
+pub scale-before : (k sc : ℕ) → k ≤ 9 → sc ≡ 128 ^ k → (sc ≡ 2 ^ 63 → ⊥) → k ≤ 8
+scale-before k sc h e ne = go (dec_lt k 9)
+  where
+    go : Dec (k < 9) → k ≤ 8
+    go (yes p) = omega arith
+    go (no p) = let z : k ≡ 9 = omega arith in absurd (ne (e ∙ ap (λ k. 128 ^ k) z))
 
 pub scale-under : (sc : ℕ) → Scale sc → (sc ≡ 2 ^ 63 → ⊥) → sc ≤ 2 ^ 56
-scale-under sc (k, h, e) ne = go (dec_lt k 9)
-  where
-    go : Dec (k < 9) → sc ≤ 2 ^ 56
-    go (yes p) = rw e (powers-under k (omega arith))
-    go (no p) = let z : k ≡ 9 = omega arith in absurd (ne (e ∙ ap (λ k. 128 ^ k) z))
+scale-under sc (k, h, e) ne = rw e (powers-under k (scale-before k sc h e ne))
 
 module _ (v b sc : ℕ) (h : v < sc) where
   pub sum-under : b < 128 → sc ≤ 2 ^ 56 → v + b * sc < 2 ^ 64

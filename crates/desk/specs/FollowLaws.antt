@@ -1,5 +1,5 @@
 -- A call on a history and its table: by what the call answered, the table is that of the history with the call.
-use Rattle.std.specs.Prelude.{◌≡◌, true, false, ◌||◌, eqb, ℤ, pos, neg_ℤ, length, drop}
+use Rattle.std.specs.Prelude.{◌≡◌, true, false, ◌||◌, eqb, ℤ, pos, neg_ℤ, length, drop, Result, Ok, Err}
 use Rattle.std.proofs.Math.Path.{refl, sym, ap, ap₂}
 use Rattle.std.proofs.Common.{◌∙◌, subst, suc-ne-zero, arith, eqb-true, eq-eqb, ne_eqb}
 use Rattle.std.proofs.Math.Bool.{cond}
@@ -11,7 +11,8 @@ use Rattle.lists.specs.Tabulate.{tab, tab-length}
 use Rattle.records.specs.Records.{Entry, entry, Parsed, unread, parsed, reading}
 use Rattle.records.specs.Reading.{padded, placed, reading_at}
 use Rattle.records.specs.ReadingLaws.{padded-at}
-use Rattle.records.specs.declared.Reading.{Reading}
+use Rattle.records.specs.declared.Malformed.{Malformed}
+use Rattle.records.specs.declared.Record.{Record}
 use Rattle.memory.specs.Memory.{Holds}
 use Rattle.holdings.specs.declared.Totals.{Totals}
 use Rattle.model.specs.Book.{Book, new}
@@ -30,7 +31,6 @@ use Rattle.standing.specs.StandingLaws.{view-is, sound-of}
 use Rattle.book.specs.declared.calls.Answer.{Answer}
 use Rattle.book.specs.declared.calls.Answer.TheVariants.{Refused, NotNext, Done, BothSides, Closed}
 use Rattle.book.specs.declared.bytes.Fed.{Fed}
-use Rattle.book.specs.declared.bytes.Fed.TheVariants as fed
 use Rattle.book.specs.Called.{answer_of, Called}
 use Rattle.book.specs.CalledLaws.{next-holds}
 use Rattle.book.specs.Feeding.{FedBy, FedAt}
@@ -38,13 +38,12 @@ use Rattle.trail.specs.declared.Row.{Row}
 use Rattle.trail.specs.Rows.{row_at, rows_in}
 use Rattle.trail.specs.Tables.{Stored}
 use Rattle.trail.specs.TableLaws.{row_more}
-use Rattle.desk.specs.declared.following.Followed.TheVariants.{Next, Malformed}
 use Rattle.particulars.specs.declared.Standing.{Standing}
 use Rattle.particulars.specs.Particulars.{standing_of}
 use Rattle.desk.specs.Lines.{Closing}
 use Rattle.desk.specs.Trails.{is_side, row_of, rows_today, Trailed}
 use Rattle.desk.specs.TrailLaws.{rows-room}
-use Rattle.desk.specs.Follows.{trade_in, row_with, row_for, Kept, Tabled, Notable, FollowedOn, FollowedBy, FollowedAt, Followable}
+use Rattle.desk.specs.Follows.{trade_in, row_with, row_for, Kept, Tabled, Notable, FollowedOn, followed_to, FollowedBy, FollowedAt, Followable}
 
 -- ---- a trade's fields
 -- the trade of a call, or another for a call that is none
@@ -291,34 +290,36 @@ module _ (n : ℕ) (t : Trade) (buyer seller : Totals) where
   )
 
 -- ---- the record at a place, which was fed
-module _ {bytes : List ℕ} {at : ℕ} {counts counts' : List ℕ} {money money' : List ℤ} {r : Fed} (f : FedAt bytes at counts money r counts' money') where
+module _ {bytes : List ℕ} {at : ℕ} {counts counts' : List ℕ} {money money' : List ℤ} {r : Result Fed Malformed} (f : FedAt bytes at counts money r counts' money') where
   -- what is read there has the record's fields
-  read-trade : {read : Reading} → read ≡ reading_at bytes at → (e : Entry) (rest : List ℕ) → reading (drop at bytes) ≡ parsed e rest
+  read-trade : {read : Record} → Ok read ≡ reading_at bytes at → (e : Entry) (rest : List ℕ) → reading (drop at bytes) ≡ parsed e rest
       → trade_in read.fields ≡ trade_in e.fields
-  read-trade s e rest i =
-      ap (λ (x : Reading). trade_in x.fields) s ∙ ap (λ p. trade_in (placed bytes at p).fields) i ∙ padded-trade e.fields
+  read-trade {read} s e rest i =
+      let found : Ok read ≡ placed bytes at (parsed e rest) = s ∙ ap (placed bytes at) i in
+      let fields : read.fields ≡ padded e.fields = cc in
+      ap trade_in fields ∙ padded-trade e.fields
 
-  pub fed-notable : {next : ℕ} {a : Answer} → r ≡ fed.Next next a → {read : Reading} → read ≡ reading_at bytes at
+  pub fed-notable : {fed : Fed} → r ≡ Ok fed → {read : Record} → Ok read ≡ reading_at bytes at
       → {n : ℕ} {h : List Entry} {row_counts : List ℕ} {row_money : List ℤ} {used : ℕ} → Trailed n h counts money row_counts row_money used
-      → Notable a (trade_in read.fields) used
-  fed-notable {next} {a} q {read} s {used = used} t = go (reading (drop at bytes)) refl f.outcome
+      → Notable fed.answer (trade_in read.fields) used
+  fed-notable {fed} q {read} s {used = used} t = go (reading (drop at bytes)) refl f.outcome
     where
-      go : (p : Parsed) → reading (drop at bytes) ≡ p → FedBy p bytes at counts money r counts' money' → Notable a (trade_in read.fields) used
+      go : (p : Parsed) → reading (drop at bytes) ≡ p → FedBy p bytes at counts money r counts' money' → Notable fed.answer (trade_in read.fields) used
       go unread i (w, k) = let z : ◌≡◌ {A = ℕ} 0 1 = cc in absurd (omega arith)
       go (parsed e rest) i (b, (w, d)) =
-          let same : b ≡ a = cc in
-          subst (λ x. Notable a x used) (sym (read-trade s e rest i))
+          let same : b ≡ fed.answer = cc in
+          subst (λ x. Notable fed.answer x used) (sym (read-trade s e rest i))
           (follow-notable t (subst (λ x. Called counts money e x counts' money') same d))
 
-  pub fed-followed : {next : ℕ} {a : Answer} → r ≡ fed.Next next a → {read : Reading} → read ≡ reading_at bytes at
+  pub fed-followed : {fed : Fed} → r ≡ Ok fed → {read : Record} → Ok read ≡ reading_at bytes at
       → {n : ℕ} {row_counts : List ℕ} {row_money : List ℤ} {used : ℕ} {row_counts' : List ℕ} {row_money' : List ℤ} {used' : ℕ}
-      → Tabled a n (trade_in read.fields) row_counts row_money used row_counts' row_money' used'
-      → FollowedAt n bytes at counts money row_counts row_money used (Next next used' a) counts' money' row_counts' row_money'
-  fed-followed {next} {a} q {read} s {n} {row_counts} {row_money} {used} {row_counts'} {row_money'} {used'} k =
+      → Tabled fed.answer n (trade_in read.fields) row_counts row_money used row_counts' row_money' used'
+      → FollowedAt n bytes at counts money row_counts row_money used (followed_to fed.next used' fed.answer) counts' money' row_counts' row_money'
+  fed-followed {fed} q {read} s {n} {row_counts} {row_money} {used} {row_counts'} {row_money'} {used'} k =
       record { outcome = go (reading (drop at bytes)) refl f.outcome }
     where
-      on : (e : Entry) → Called counts money e a counts' money' → Tabled a n (trade_in e.fields) row_counts row_money used row_counts' row_money' used'
-          → FollowedOn n e a counts money row_counts row_money used counts' money' row_counts' row_money' used'
+      on : (e : Entry) → Called counts money e fed.answer counts' money' → Tabled fed.answer n (trade_in e.fields) row_counts row_money used row_counts' row_money' used'
+          → FollowedOn n e fed.answer counts money row_counts row_money used counts' money' row_counts' row_money' used'
       on e d l = record {
         called = d;
         tabled = l;
@@ -327,31 +328,42 @@ module _ {bytes : List ℕ} {at : ℕ} {counts counts' : List ℕ} {money money'
       }
 
       go : (p : Parsed) → reading (drop at bytes) ≡ p → FedBy p bytes at counts money r counts' money'
-          → FollowedBy p n bytes at counts money row_counts row_money used (Next next used' a) counts' money' row_counts' row_money'
+          → FollowedBy p n bytes at counts money row_counts row_money used (followed_to fed.next used' fed.answer) counts' money' row_counts' row_money'
       go unread i (w, l) = let z : ◌≡◌ {A = ℕ} 0 1 = cc in absurd (omega arith)
       go (parsed e rest) i (b, (w, d)) =
-          let same : b ≡ a = cc in
-          let there : next ≡ length bytes - length rest = cc in (
-            a,
+          let same : b ≡ fed.answer = cc in
+          let there : fed.next ≡ length bytes - length rest = cc in (
+            fed.answer,
             (
               used',
               (
-                ap (λ j. Next j used' a) there,
+                ap (λ j. followed_to j used' fed.answer) there,
                 on e
                     (subst (λ x. Called counts money e x counts' money') same d)
-                    (subst (λ x. Tabled a n x row_counts row_money used row_counts' row_money' used') (read-trade s e rest i) k),
+                    (subst (λ x. Tabled fed.answer n x row_counts row_money used row_counts' row_money' used') (read-trade s e rest i) k),
               ),
             ),
           )
 
-  pub fed-unread : {first : ℕ} → r ≡ fed.Malformed first → {n : ℕ} {row_counts : List ℕ} {row_money : List ℤ} {used : ℕ}
-      → FollowedAt n bytes at counts money row_counts row_money used (Malformed first) counts' money' row_counts row_money
-  fed-unread {first} q {n} {row_counts} {row_money} {used} = record { outcome = go (reading (drop at bytes)) f.outcome }
+  pub fed-unread : {bad : Malformed} → r ≡ Err bad → {n : ℕ} {row_counts : List ℕ} {row_money : List ℤ} {used : ℕ}
+      → FollowedAt n bytes at counts money row_counts row_money used (Err bad) counts' money' row_counts row_money
+  fed-unread {bad} q {n} {row_counts} {row_money} {used} = record { outcome = go (reading (drop at bytes)) f.outcome }
     where
       go : (p : Parsed) → FedBy p bytes at counts money r counts' money'
-          → FollowedBy p n bytes at counts money row_counts row_money used (Malformed first) counts' money' row_counts row_money
-      go unread (w, (c, m)) = let here : first ≡ at = cc in (ap Malformed here, (c, (m, (refl, refl))))
+          → FollowedBy p n bytes at counts money row_counts row_money used (Err bad) counts' money' row_counts row_money
+      go unread (w, (c, m)) = let here : bad.at ≡ at = cc in (ap (λ j. Err (record { at = j })) here, (c, (m, (refl, refl))))
       go (parsed e rest) (b, (w, d)) = let z : ◌≡◌ {A = ℕ} 0 1 = cc in absurd (omega arith)
+
+-- what is not read there is not called either
+pub unread-followed : {bytes : List ℕ} {at : ℕ} {bad : Malformed} → Err bad ≡ reading_at bytes at
+    → {n : ℕ} {counts : List ℕ} {money : List ℤ} {row_counts : List ℕ} {row_money : List ℤ} {used : ℕ}
+    → FollowedAt n bytes at counts money row_counts row_money used (Err bad) counts money row_counts row_money
+unread-followed {bytes} {at} {bad} e {n} {counts} {money} {row_counts} {row_money} {used} = record { outcome = go (reading (drop at bytes)) e }
+  where
+    go : (p : Parsed) → Err bad ≡ placed bytes at p
+        → FollowedBy p n bytes at counts money row_counts row_money used (Err bad) counts money row_counts row_money
+    go unread q = let here : bad.at ≡ at = cc in (ap (λ j. Err (record { at = j })) here, (refl, (refl, (refl, refl))))
+    go (parsed e rest) q = let z : ◌≡◌ {A = ℕ} 0 1 = cc in absurd (omega arith)
 
 -- ---- a memory and a table of some history can be called and read
 pub followable-sound : {n : ℕ} {counts : List ℕ} {money : List ℤ} {row_counts : List ℕ} {row_money : List ℤ} {used : ℕ}

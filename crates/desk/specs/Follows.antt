@@ -1,6 +1,7 @@
 -- A record that a desk follows: it is called on the book, and the account's table is that of the history with it.
-use Rattle.std.specs.Prelude.{◌≡◌, true, false, cond, List, ◌∷◌, ℕ, ◌+◌, ◌-◌, ◌<◌, ◌≤◌, eqb, ℤ, pos, length, drop, get_or}
+use Rattle.std.specs.Prelude.{◌≡◌, true, false, cond, List, ◌∷◌, ℕ, ◌+◌, ◌-◌, ◌<◌, ◌≤◌, eqb, ℤ, pos, length, drop, get_or, Result, Ok, Err}
 use Rattle.folding.specs.Fold.{unfolded}
+use Rattle.records.specs.declared.Malformed.{Malformed}
 use Rattle.records.specs.Records.{Entry, Parsed, unread, parsed, reading}
 use Rattle.holdings.specs.declared.Totals.{Totals}
 use Rattle.model.specs.Calls.{Trade}
@@ -12,7 +13,6 @@ use Rattle.book.specs.Called.{answer_of, Called}
 use Rattle.trail.specs.declared.Row.{Row}
 use Rattle.trail.specs.Tables.{Stored}
 use Rattle.desk.specs.declared.following.Followed.{Followed}
-use Rattle.desk.specs.declared.following.Followed.TheVariants.{Next, Malformed}
 use Rattle.desk.specs.Trails.{is_side, other_side, Trailed}
 
 -- "8 trade | time, code, buyer, seller, lots, rate"
@@ -74,14 +74,17 @@ pub record FollowedOn (n : ℕ) (e : Entry) (a : Answer) (counts : List ℕ) (mo
   pub answers : (h : List Entry) → Trailed n h counts money row_counts row_money used → answer_of (run (e ∷ h)) a ≡ model.answer (run h) e
   pub trailed : (h : List Entry) → Trailed n h counts money row_counts row_money used → Trailed n (e ∷ h) counts' money' row_counts' row_money' used'
 
-abbrev pub FollowedBy : Parsed → ℕ → List ℕ → ℕ → List ℕ → List ℤ → List ℕ → List ℤ → ℕ → Followed → List ℕ → List ℤ → List ℕ → List ℤ → Type 0
+abbrev pub followed_to : ℕ → ℕ → Answer → Result Followed Malformed
+followed_to next rows a = Ok (record { next = next; rows = rows; answer = a })
+
+abbrev pub FollowedBy : Parsed → ℕ → List ℕ → ℕ → List ℕ → List ℤ → List ℕ → List ℤ → ℕ → Result Followed Malformed → List ℕ → List ℤ → List ℕ → List ℤ → Type 0
 FollowedBy unread n bytes at counts money row_counts row_money used r counts' money' row_counts' row_money' =
-    (r ≡ Malformed at) × ((counts' ≡ counts) × ((money' ≡ money) × ((row_counts' ≡ row_counts) × (row_money' ≡ row_money))))
+    (r ≡ Err (record { at = at })) × ((counts' ≡ counts) × ((money' ≡ money) × ((row_counts' ≡ row_counts) × (row_money' ≡ row_money))))
 FollowedBy (parsed e rest) n bytes at counts money row_counts row_money used r counts' money' row_counts' row_money' =
-    (a : Answer) × ((used' : ℕ) × ((r ≡ Next (length bytes - length rest) used' a)
+    (a : Answer) × ((used' : ℕ) × ((r ≡ followed_to (length bytes - length rest) used' a)
     × FollowedOn n e a counts money row_counts row_money used counts' money' row_counts' row_money' used'))
 
-pub record FollowedAt (n : ℕ) (bytes : List ℕ) (at : ℕ) (counts : List ℕ) (money : List ℤ) (row_counts : List ℕ) (row_money : List ℤ) (used : ℕ) (r : Followed) (counts' : List ℕ) (money' : List ℤ) (row_counts' : List ℕ) (row_money' : List ℤ) : Type 0 where
+pub record FollowedAt (n : ℕ) (bytes : List ℕ) (at : ℕ) (counts : List ℕ) (money : List ℤ) (row_counts : List ℕ) (row_money : List ℤ) (used : ℕ) (r : Result Followed Malformed) (counts' : List ℕ) (money' : List ℤ) (row_counts' : List ℕ) (row_money' : List ℤ) : Type 0 where
   pub outcome : FollowedBy (reading (drop at bytes)) n bytes at counts money row_counts row_money used r counts' money' row_counts' row_money'
 
 -- a memory and a table of some history

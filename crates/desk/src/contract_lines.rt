@@ -9,11 +9,11 @@ ghost use Rattle.desk.specs.Lines.{rate_in, Table, Lined, StoodBefore, AllLined,
 use memory::{COUNTS, MONEY};
 use particulars::Standing;
 use rates::number_of;
-use reports::{Rated, rate_of};
+use reports::rate_of;
 use trail::{price, worth};
 
 // One contract: its rate, the rule's number and the count used, what the position carried over earned, and the sum of all lines.
-#[derive(Clone, Copy)]
+#[derive(Clone, Copy, Default)]
 pub(crate) struct Line {
     pub rate: i64,
     pub rule: u64,
@@ -32,16 +32,6 @@ pub struct Lines {
     pub sums: [i64; 6],
 }
 
-fn no_line() -> Line {
-    Line {
-        rate: 0,
-        rule: 0,
-        used: 0,
-        carried: 0,
-        sum: 0,
-    }
-}
-
 // The line of one contract; the amounts of its trades are set.
 fn line_of(
     counts: &[u64; COUNTS],
@@ -58,17 +48,15 @@ fn line_of(
     requires table { Table labels.now amounts.old used }
     ensures { Lined (view counts.now money.now) labels.now amounts.old used code net previous result amounts.new }
 {
-    let Rated::At(settled) = rate_of(counts, money, code) else {
-        return no_line();
+    let Some(settled) = rate_of(counts, money, code) else {
+        return Line::default();
     };
     let rate = settled.rate;
-    let rule = settled.rule;
-    let number = number_of(rule);
     let carried = worth(net, previous, rate);
     let made = price(labels, amounts, used, code, rate);
     Line {
         rate,
-        rule: number,
+        rule: number_of(settled.rule),
         used: settled.used,
         carried,
         sum: made + carried,
@@ -88,25 +76,18 @@ fn each_line(
     requires table { Table labels.now amounts.old used }
     ensures { AllLined (view counts.now money.now) labels.now amounts.old used before result amounts.new }
 {
-    let codes = before.codes;
-    let nets = before.nets;
-    let previous = before.previous;
-    let none = no_line();
-    let mut lines = [none; 6];
-    let mut k: usize = 0;
-    while k < 6 {
-        let line = line_of(
+    let mut lines = [Line::default(); 6];
+    for k in 0..6 {
+        lines[k] = line_of(
             counts,
             money,
             labels,
-            &mut *amounts,
+            amounts,
             used,
-            codes[k],
-            nets[k],
-            previous[k],
+            before.codes[k],
+            before.nets[k],
+            before.previous[k],
         );
-        lines[k] = line;
-        k += 1;
     }
     lines
 }
@@ -114,20 +95,12 @@ fn each_line(
 fn columns(lines: [Line; 6]) -> Lines
     ensures { result ≡ columns_of lines }
 {
-    let a = lines[0];
-    let b = lines[1];
-    let c = lines[2];
-    let d = lines[3];
-    let e = lines[4];
-    let f = lines[5];
     Lines {
-        rates: [a.rate, b.rate, c.rate, d.rate, e.rate, f.rate],
-        rules: [a.rule, b.rule, c.rule, d.rule, e.rule, f.rule],
-        used: [a.used, b.used, c.used, d.used, e.used, f.used],
-        carried: [
-            a.carried, b.carried, c.carried, d.carried, e.carried, f.carried,
-        ],
-        sums: [a.sum, b.sum, c.sum, d.sum, e.sum, f.sum],
+        rates: lines.map(|line| line.rate),
+        rules: lines.map(|line| line.rule),
+        used: lines.map(|line| line.used),
+        carried: lines.map(|line| line.carried),
+        sums: lines.map(|line| line.sum),
     }
 }
 
@@ -144,6 +117,5 @@ pub fn close_lines(
     requires { Closing counts.now money.now labels.now amounts.old used before }
     ensures { ExplainedAll counts.now money.now labels.now amounts.old used before result amounts.new }
 {
-    let lines = each_line(counts, money, labels, amounts, used, before);
-    columns(lines)
+    columns(each_line(counts, money, labels, amounts, used, before))
 }

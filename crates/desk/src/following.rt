@@ -2,19 +2,20 @@
 ghost use Rattle.std.specs.Prelude.{◌≡◌, length};
 ghost use Rattle.desk.specs.Follows.{trade_in, row_with, Tabled, Notable, FollowedAt, Followable};
 
-use book::{Answer, Fed, feed};
+use book::{Answer, feed};
 use fields::WIDTH;
 use folding::unfold;
 use holdings::Totals;
 use memory::{COUNTS, MONEY};
-use records::read_record;
+use records::{Malformed, read_record};
 use trail::{Row, store_row};
 
-// The place after the record, how many rows the table has then, and the answer; or refusal 1 with the record's place.
+// A record that was called: the place after it, how many rows the table has then, and the answer.
 #[derive(Clone, Copy)]
-pub enum Followed {
-    Next(usize, usize, Answer),
-    Malformed(usize),
+pub struct Followed {
+    pub next: usize,
+    pub rows: usize,
+    pub answer: Answer,
 }
 
 // A trade as one of its sides sees it.
@@ -98,18 +99,16 @@ pub fn follow(
     bytes: &[u8],
     at: usize,
     account: u64,
-) -> Followed
+) -> Result<Followed, Malformed>
     requires { Followable account counts.old money.old labels.old amounts.old used }
     ensures { FollowedAt account bytes.now at counts.old money.old labels.old amounts.old used result counts.new money.new labels.new amounts.new }
 {
-    let read = read_record(bytes, at);
-    let fields = read.fields;
-    let fed = feed(counts, money, bytes, at);
-    match fed {
-        Fed::Malformed(first) => Followed::Malformed(first),
-        Fed::Next(next, answer) => {
-            let rows = note(labels, amounts, used, account, fields, answer);
-            Followed::Next(next, rows, answer)
-        }
-    }
+    let read = read_record(bytes, at)?;
+    let fed = feed(counts, money, bytes, at)?;
+    let rows = note(labels, amounts, used, account, read.fields, fed.answer);
+    Ok(Followed {
+        next: fed.next,
+        rows,
+        answer: fed.answer,
+    })
 }

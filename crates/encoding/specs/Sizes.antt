@@ -1,6 +1,7 @@
 -- How long some numbers are as bytes, step by step.
-use Rattle.std.specs.Prelude.{◌≡◌, List, [], ◌∷◌, ◌++◌, ℕ, ◌+◌, ◌*◌, ◌≤◌, ◌<◌, length, get_or, take, drop}
-use Rattle.std.proofs.Common.{ap, ◌∙◌, append-nil, add-one, arith, length-append, take-append-drop, take-suc}
+use Rattle.std.specs.Prelude.{◌≡◌, List, [], ◌∷◌, ◌++◌, ℕ, ◌+◌, ◌*◌, ◌≤◌, ◌<◌, length, get_or, take, drop, sum_by}
+use Rattle.std.proofs.Common.{refl, ap, ◌∙◌, append-nil, add-one, arith, length-append, take-append-drop, take-suc}
+use Rattle.std.proofs.lemmas.List.Sums.{sum_by-cons}
 use Rattle.numbers.specs.Seven.{encode}
 use Rattle.numbers.specs.SevenLaws.{groups-most}
 use Rattle.numbers.specs.Several.{write_of}
@@ -25,3 +26,12 @@ pub size-most : (l : List ℕ) → length (write_of l) ≤ 10 * length l
 unfolding write_of
 size-most [] = omega arith
 size-most (x ∷ l) = omega (arith, length-append (encode x) (write_of l), groups-most 10 x, size-most l)
+
+-- The sum of the sizes.
+pub sizes-sum : (l : List ℕ) → sum_by (λ n. length (encode n)) l ≡ length (write_of l)
+unfolding write_of
+sizes-sum [] = refl
+sizes-sum (x ∷ l) = omega (arith, sum_by-cons (λ n. length (encode n)) x l, length-append (encode x) (write_of l), sizes-sum l)
+
+pub sizes-most : (l : List ℕ) → sum_by (λ n. length (encode n)) l ≤ 10 * length l
+sizes-most l = omega (arith, sizes-sum l, size-most l)

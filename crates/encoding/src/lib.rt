@@ -10,10 +10,11 @@ ghost use Rattle.encoding.specs.Put.{put};
 pub fn number_size(n: u64) -> usize
     ensures { result ≡ length (encode n) }
 {
+    // Counted by hand: how many groups there are is known once nothing is left.
     let mut left = n;
     let mut count: usize = 1;
     while 128 <= left {
-        left = left / 128;
+        left /= 128;
         count += 1;
     }
     count
@@ -24,11 +25,12 @@ pub fn write_number(room: &mut [u8], at: usize, n: u64) -> usize
     requires { at + length (encode n) ≤ length room.old }
     ensures { (result ≡ at + length (encode n)) × (room.new ≡ put room.old at (encode n)) }
 {
+    // The place goes up by hand: how many groups there are is known once nothing is left.
     let mut rest = n;
     let mut i = at;
     while 128 <= rest {
         room[i] = (rest % 128 + 128) as u8;
-        rest = rest / 128;
+        rest /= 128;
         i += 1;
     }
     room[i] = rest as u8;
@@ -39,13 +41,7 @@ pub fn write_number(room: &mut [u8], at: usize, n: u64) -> usize
 pub fn numbers_size(list: &[u64]) -> usize
     ensures { result ≡ length (write_of list.now) }
 {
-    let mut size: usize = 0;
-    let mut counted: usize = 0;
-    while counted < list.len() {
-        size += number_size(list[counted]);
-        counted += 1;
-    }
-    size
+    list.iter().map(|n| number_size(*n)).sum()
 }
 
 // Numbers, put at a place of lent room; the place after them is the answer.
@@ -54,10 +50,8 @@ pub fn write_numbers(room: &mut [u8], at: usize, list: &[u64]) -> usize
     ensures { (result ≡ at + length (write_of list.now)) × (room.new ≡ put room.old at (write_of list.now)) }
 {
     let mut place = at;
-    let mut written: usize = 0;
-    while written < list.len() {
-        place = write_number(&mut *room, place, list[written]);
-        written += 1;
+    for n in list {
+        place = write_number(&mut *room, place, *n);
     }
     place
 }

@@ -1,11 +1,11 @@
 -- What follows from a record that was followed: the memory and the table are still those of a history, and an accepted close can be explained.
-use Rattle.std.specs.Prelude.{◌≡◌, refl, List, [], ◌∷◌, ℕ, ◌-◌, ◌*◌, ◌≤◌, ◌<◌, ℤ, length, drop}
+use Rattle.std.specs.Prelude.{◌≡◌, refl, List, [], ◌∷◌, ℕ, ◌-◌, ◌*◌, ◌≤◌, ◌<◌, ℤ, length, drop, Result, Ok, Err}
 use Rattle.std.proofs.Common.{sym, ap, ◌∙◌, arith}
 use Rattle.std.proofs.Math.Path.{subst}
 use Rattle.lists.specs.Tabulate.{tab}
 use Rattle.numbers.specs.Below.{Small}
 use Rattle.ranges.specs.Ranges.{refusal_of, checked}
-use Rattle.ranges.specs.declared.Checked.TheVariants.{Passed}
+use Rattle.records.specs.declared.Malformed.{Malformed}
 use Rattle.records.specs.Records.{Entry, entry, Parsed, unread, parsed, reading}
 use Rattle.records.specs.ReadingLaws.{lies}
 use Rattle.memory.specs.Memory.{Holds}
@@ -21,7 +21,6 @@ use Rattle.book.specs.Taken.{deal_in}
 use Rattle.particulars.specs.declared.Standing.{Standing}
 use Rattle.particulars.specs.Particulars.{standing_of}
 use Rattle.desk.specs.declared.following.Followed.{Followed}
-use Rattle.desk.specs.declared.following.Followed.TheVariants.{Next, Malformed}
 use Rattle.desk.specs.Trails.{Trailed}
 use Rattle.desk.specs.Follows.{Kept, FollowedOn, FollowedBy, FollowedAt, Followable}
 use Rattle.desk.specs.FollowLaws.{trail-begins, closed-next}
@@ -30,7 +29,7 @@ use Rattle.desk.specs.Lines.{Closing, ExplainedAll}
 use Rattle.desk.specs.LineLaws.{closed-table}
 
 -- a trade whose fields are in range
-pub good-trade : (fields exceptions : List ℕ) → checked 8 fields exceptions ≡ Passed → GoodTrade (trade_of (deal_in fields))
+pub good-trade : (fields exceptions : List ℕ) → checked 8 fields exceptions ≡ Ok tt → GoodTrade (trade_of (deal_in fields))
 unfolding call_of
 good-trade fields exceptions passed = ranges (entry 8 fields exceptions) (ap refusal_of passed)
 
@@ -49,23 +48,32 @@ module _ {counts : List ℕ} {money : List ℤ} {row_counts : List ℕ} {row_mon
   pub explained-table : (used * 3 ≤ length row_counts) × (used * 6 ≤ length row_money')
   explained-table = let t = closed-table c.just in (t.counts-long, omega (arith, t.money-long, explained-long))
 
-never : {A : Type 0} {x : ℕ} {next rows : ℕ} {a : Answer} → Malformed x ≡ Next next rows a → A
+never : {A : Type 0} {bad : Malformed} {followed : Followed} → ◌≡◌ {A = Result Followed Malformed} (Err bad) (Ok followed) → A
 never q = let z : ◌≡◌ {A = ℕ} 0 1 = cc in absurd (omega arith)
 
 -- ---- the record at a place
 module _ {n : ℕ} {bytes : List ℕ} {at : ℕ} {counts counts' : List ℕ} {money money' : List ℤ} {row_counts row_counts' : List ℕ} {row_money row_money' : List ℤ}
-    {used : ℕ} {r : Followed} (f : FollowedAt n bytes at counts money row_counts row_money used r counts' money' row_counts' row_money') where
+    {used : ℕ} {r : Result Followed Malformed} (f : FollowedAt n bytes at counts money row_counts row_money used r counts' money' row_counts' row_money') where
   -- bytes that are no record change nothing
-  pub followed-bad : {place : ℕ} → r ≡ Malformed place → Followable n counts money row_counts row_money used
+  pub followed-bad : {bad : Malformed} → r ≡ Err bad → Followable n counts money row_counts row_money used
       → Followable n counts' money' row_counts' row_money' used
-  followed-bad {place} is g = go (reading (drop at bytes)) f.outcome
+  followed-bad {bad} is g = go (reading (drop at bytes)) f.outcome
     where
       go : (p : Parsed) → FollowedBy p n bytes at counts money row_counts row_money used r counts' money' row_counts' row_money'
           → Followable n counts' money' row_counts' row_money' used
       go unread (q, (c, (m, (rc, rm)))) = rw (c, m, rc, rm) g
       go (parsed e rest) (a, (used', (q, on))) = never (sym is ∙ q)
 
-  module _ {next rows : ℕ} {a : Answer} (is : r ≡ Next next rows a) where
+  module _ {took : Followed} (is : r ≡ Ok took) where
+    abbrev next : ℕ
+    next = took.next
+
+    abbrev rows : ℕ
+    rows = took.rows
+
+    abbrev a : Answer
+    a = took.answer
+
     -- the record that was taken
     taken : {P : Type 0} → ((e : Entry) (rest : List ℕ) → reading (drop at bytes) ≡ parsed e rest → next ≡ length bytes - length rest
         → FollowedOn n e a counts money row_counts row_money used counts' money' row_counts' row_money' rows → P) → P

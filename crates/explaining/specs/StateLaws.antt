@@ -1,12 +1,14 @@
 -- A record taken brings the end nearer, and a turn keeps what the next one needs.
-use Rattle.std.specs.Prelude.{◌≡◌, Bool, true, false, cond, List, ℕ, ◌≤◌, ◌<◌, ℤ}
+use Rattle.std.specs.Prelude.{◌≡◌, Bool, true, false, cond, List, ℕ, ◌≤◌, ◌<◌, ℤ, Result, Ok, Err}
+use Rattle.std.specs.declared.ops.ControlFlow.{ControlFlow}
+use Rattle.std.specs.declared.ops.ControlFlow.TheVariants.{Continue, Break}
 use Rattle.std.proofs.Common.{arith}
+use Rattle.standing.specs.Made.{Sound}
 use Rattle.window.specs.declared.Window.{Window}
 use Rattle.window.specs.Window.{Within}
 use Rattle.desk.specs.Follows.{Followable}
 use Rattle.explaining.specs.declared.followed.State.{State}
-use Rattle.explaining.specs.declared.run.Turn.{Turn}
-use Rattle.explaining.specs.declared.run.Turn.TheVariants.{On, Ended, Damaged}
+use Rattle.explaining.specs.declared.run.Damaged.{Damaged}
 use Rattle.explaining.specs.States.{Further, GoesOn, Carried}
 use Rattle.desk.specs.FollowLaws.{followable-sound}
 
@@ -20,9 +22,17 @@ further-on {r = r} on inside = record { on = omega arith; inside = inside; less 
 pub further-not : {end : ℕ} {s r : State} → s.at < end → r.at ≡ s.at → r.bad ≡ true → Further end s r
 further-not inside here bad = record { on = omega arith; inside = omega arith; less = rw bad (omega arith) }
 
-pub carried : {n size : ℕ} (w : Window) (s : State) (t : Turn) {counts : List ℕ} {money : List ℤ} {row_counts : List ℕ} {row_money : List ℤ}
+pub carried : {n size : ℕ} (w : Window) (s : State) (t : ControlFlow (Result State Damaged) (Window × State)) {counts : List ℕ} {money : List ℤ} {row_counts : List ℕ} {row_money : List ℤ}
     → Within size w → w.from ≤ s.at → s.at ≤ w.to → Followable n counts money row_counts row_money s.rows → GoesOn w s t
     → Carried n size w.place t counts money row_counts row_money
-carried w s (On next more) (ordered, within) on inside f (is, same) = rw (is, same) (f, ((inside, within), omega arith))
-carried w s (Ended last) within on inside f same = rw same f
-carried w s (Damaged place) within on inside f same = followable-sound f
+carried w s (Continue (next, more)) (ordered, within) on inside f (is, same) = rw (is, same) (f, ((inside, within), omega arith))
+carried w s (Break (Ok last)) within on inside f same = rw same f
+carried w s (Break (Err damaged)) within on inside f same = followable-sound f
+
+-- however a turn ends, the memory is that of some history
+pub carried-sound : (n size place : ℕ) (t : ControlFlow (Result State Damaged) (Window × State)) {counts : List ℕ} {money : List ℤ}
+    (row_counts : List ℕ) (row_money : List ℤ)
+    → Carried n size place t counts money row_counts row_money → Sound counts money
+carried-sound n size place (Continue (w, s)) row_counts row_money (f, within) = followable-sound f
+carried-sound n size place (Break (Ok s)) row_counts row_money f = followable-sound f
+carried-sound n size place (Break (Err damaged)) row_counts row_money sound = sound

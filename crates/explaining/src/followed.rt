@@ -8,14 +8,15 @@ ghost use Rattle.explaining.specs.States.{Further};
 
 use book::{Answer, deal_in};
 use dealing::Deal;
-use desk::{Followed, Lines, close_lines, follow};
+use desk::{Lines, close_lines, follow};
 use fields::WIDTH;
+use holdings::Totals;
 use memory::{COUNTS, MONEY};
 use pages::{Close, LISTED, Notes, Question, is_shown, put_close, put_refused};
-use particulars::{Asked, Parted, Parts, Standing, parts_of, standing_of, totals_asked};
-use ranges::{Checked, in_range};
+use particulars::{Parts, Standing, parts_of, standing_of, totals_asked};
+use ranges::in_range;
 use records::read_record;
-use reports::{Bill, Billed, bill_of, day_of};
+use reports::{Bill, bill_of, day_of};
 
 // What was found of the close that is asked for.
 #[derive(Clone, Copy)]
@@ -26,7 +27,8 @@ pub(crate) enum Found {
     Page(usize),
 }
 
-// How far a block of the file is followed: `bad` where no record stands there. Of the day: the rows of the account's trades and its
+// How far a block of the file is followed: `bad` where no record stands there, which ends the file
+// with what was followed before it. Of the day: the rows of the account's trades and its
 // refused trades. And what was found.
 #[derive(Clone, Copy)]
 pub(crate) struct State {
@@ -57,14 +59,14 @@ pub(crate) fn first_state() -> State
 fn unpaid_of(counts: &[u64; COUNTS], money: &[i64; MONEY], account: u64) -> i64
     requires { Sound counts.now money.now }
 {
-    let Billed::With(bill) = bill_of(counts, money, account) else {
+    let Some(bill) = bill_of(counts, money, account) else {
         return 0;
     };
     bill.due
 }
 
 // The totals that a trade in range would give the account, if it is a side.
-fn side_asked(counts: &[u64; COUNTS], money: &[i64; MONEY], t: Deal, account: u64) -> Asked
+fn side_asked(counts: &[u64; COUNTS], money: &[i64; MONEY], t: Deal, account: u64) -> Option<Totals>
     requires { Sound counts.now money.now × GoodTrade (trade_of t) }
 {
     if account == t.buyer {
@@ -73,7 +75,7 @@ fn side_asked(counts: &[u64; COUNTS], money: &[i64; MONEY], t: Deal, account: u6
     if account == t.seller {
         return totals_asked(counts, money, t, account);
     }
-    Asked::Nothing
+    None
 }
 
 // The totals that a trade refused under 14 would have given the account.
@@ -83,26 +85,16 @@ fn asked_of(
     fields: [u64; WIDTH],
     account: u64,
     number: u64,
-) -> Asked
+) -> Option<Totals>
     requires { Sound counts.now money.now }
 {
     if number != 14 {
-        return Asked::Nothing;
+        return None;
     }
-    let none = [0u64; 1];
-    let Checked::Passed = in_range(8, fields, &none[..0]) else {
-        return Asked::Nothing;
+    let Ok(()) = in_range(8, fields, &[]) else {
+        return None;
     };
     side_asked(counts, money, deal_in(fields), account)
-}
-
-// One more, up to the largest number.
-fn one_more(count: u64) -> u64 {
-    if count < 18446744073709551615 {
-        count + 1
-    } else {
-        count
-    }
 }
 
 // Notes a refused trade that names the account, if its code is shown and the list is not full.
@@ -124,7 +116,7 @@ fn noted(
     if !is_shown(q, t.code) {
         return n;
     }
-    let refused = one_more(n.refused);
+    let refused = n.refused.saturating_add(1);
     if LISTED <= n.refused {
         return Notes {
             used: n.used,
@@ -138,10 +130,7 @@ fn noted(
 
 // Whether an account is one of two.
 fn is_named(buyer: u64, seller: u64, account: u64) -> bool {
-    if buyer == account {
-        return true;
-    }
-    seller == account
+    buyer == account || seller == account
 }
 
 // The notes after an answer to a record that is no close.
@@ -221,8 +210,9 @@ fn take_call(
     ensures followable_2 { Followable q.account counts.new money.new labels.new amounts.new result.rows }
     ensures further { Further (length bytes.now) s result }
 {
-    let read = read_record(bytes, s.at);
-    let fields = read.fields;
+    let Ok(read) = read_record(bytes, s.at) else {
+        return stopped(s);
+    };
     let followed = follow(
         &mut *counts,
         &mut *money,
@@ -233,37 +223,30 @@ fn take_call(
         s.at,
         q.account,
     );
-    let Followed::Next(next, rows, answer) = followed else {
+    let Ok(taken) = followed else {
         return stopped(s);
     };
     let notes = notes_after(
-        &*counts, &*money, room, s.notes, q, read.kind, fields, answer,
+        &*counts,
+        &*money,
+        room,
+        s.notes,
+        q,
+        read.kind,
+        read.fields,
+        taken.answer,
     );
-    moved(s, next, rows, notes)
+    moved(s, taken.next, taken.rows, notes)
 }
 
 // Whether a close is the one that is asked for: that of the day, or the last one so far.
 fn is_wanted(q: Question, day: u64) -> bool {
-    if q.one_day {
-        return day == q.day;
-    }
-    true
+    q.day.is_none_or(|asked| day == asked)
 }
 
 // Whether the code that is asked for was listed.
 fn is_listed(q: Question, before: Standing) -> bool {
-    if !q.one_code {
-        return true;
-    }
-    let codes = before.codes;
-    let mut k: usize = 0;
-    while k < 6 {
-        if codes[k] == q.code {
-            return true;
-        }
-        k += 1;
-    }
-    false
+    q.code.is_none_or(|code| before.codes.contains(&code))
 }
 
 // What is explained of a close.
@@ -316,10 +299,10 @@ fn explained(
     if !is_wanted(q, day) {
         return found;
     }
-    let Billed::With(bill) = bill_of(counts, money, q.account) else {
+    let Some(bill) = bill_of(counts, money, q.account) else {
         return Found::NoAccount(day);
     };
-    let Parted::With(parts) = parts_of(counts, money, q.account) else {
+    let Some(parts) = parts_of(counts, money, q.account) else {
         return Found::NoAccount(day);
     };
     if !is_listed(q, before) {
@@ -360,17 +343,17 @@ fn take_close(
         s.at,
         q.account,
     );
-    let Followed::Next(next, rows, answer) = followed else {
+    let Ok(taken) = followed else {
         return stopped(s);
     };
-    let Answer::Closed = answer else {
-        return moved(s, next, rows, s.notes);
+    let Answer::Closed = taken.answer else {
+        return moved(s, taken.next, taken.rows, s.notes);
     };
     let lines = close_lines(&*counts, &*money, &*labels, &mut *amounts, s.rows, before);
     let found = explained(
         &*counts, &*money, &*labels, &*amounts, room, page, q, s, before, lines, unpaid,
     );
-    day_over(s, next, found)
+    day_over(s, taken.next, found)
 }
 
 // The record at the state's place.

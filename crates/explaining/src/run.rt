@@ -13,13 +13,8 @@ use book::new_book;
 use memory::{COUNTS, MONEY};
 use pages::{Question, put_damaged, put_no_account, put_no_close, put_no_contract};
 use std::io::{Read, Write};
-use window::{Window, first_window, refill};
-
-// How many bytes of the file are held at a time.
-const BLOCK: usize = 65536;
-
-// No record is longer: a kind, thirteen fields and four hundred exceptions of ten bytes each.
-const LONGEST: usize = 4140;
+use std::ops::ControlFlow;
+use window::{BLOCK, LONGEST, TURNS, Window, first_window, is_whole, left_of, refill};
 
 // The numbers of the rows of a day: 10,000 trades.
 const ROW_COUNTS: usize = 30000;
@@ -31,38 +26,21 @@ const NOTES: usize = 280000;
 
 const PAGE: usize = 1600000;
 
-// A turn that does not end the run takes at least a byte of the file, so that these, 2^47, are enough for any file. Each takes at most a
-// block, so that every place is at most 2^63.
-const TURNS: u64 = 140737488355328;
-
-// What a turn leaves: a window and a state to go on with; the state at the file's end; or the place of bytes that are no record.
+// No record stands at a place of the file.
 #[derive(Clone, Copy)]
-enum Turn {
-    On(Window, State),
-    Ended(State),
-    Damaged(u64),
+struct Damaged {
+    place: u64,
 }
 
-// What the whole file gave.
-#[derive(Clone, Copy)]
-enum Outcome {
-    Followed(Found),
-    Damaged(u64),
-}
+// What a turn leaves: a window and a state to go on with, or the state at the file's end.
+type Turn = ControlFlow<Result<State, Damaged>, (Window, State)>;
 
 // Whether another record is whole: enough bytes follow, or the file has no more.
 fn is_next(s: State, end: usize, ended: bool) -> bool
     requires { s.at ≤ end }
     ensures { Ready end s result }
 {
-    if s.bad {
-        return false;
-    }
-    let left = end - s.at;
-    if ended {
-        return 0 < left;
-    }
-    LONGEST <= left
+    !s.bad && is_whole(end - s.at, ended, LONGEST)
 }
 
 // Follows record after record of a block.
@@ -84,6 +62,7 @@ fn follow_block(
     ensures reaches { Reaches (length bytes.now) first result }
 {
     let mut s = first;
+    // No index: each record says where the next one begins.
     while is_next(s, bytes.len(), ended) {
         s = take_record(
             &mut *counts,
@@ -105,22 +84,14 @@ fn turned(w: Window, s: State) -> Turn
     requires { (w.from ≤ s.at) × (w.place + (s.at - w.from) ≤ 18446744073709551615) }
     ensures { GoesOn w s result }
 {
-    let place = w.place + (s.at - w.from) as u64;
     if s.bad {
-        return Turn::Damaged(place);
+        let place = w.place + (s.at - w.from) as u64;
+        return ControlFlow::Break(Err(Damaged { place }));
     }
-    if w.ended {
-        if s.at == w.to {
-            return Turn::Ended(s);
-        }
+    match left_of(w, s.at) {
+        None => ControlFlow::Break(Ok(s)),
+        Some(rest) => ControlFlow::Continue((rest, s)),
     }
-    let next = Window {
-        from: s.at,
-        to: w.to,
-        place,
-        ended: w.ended,
-    };
-    Turn::On(next, s)
 }
 
 // A turn: reads on where it must and follows what it can.
@@ -162,6 +133,7 @@ fn take_turn<R: Read>(
 }
 
 // Takes turns until the file is done.
+// Each run has a loop of its own: one for all would take what is lent through a closure, and of the memory nothing would be known after it.
 fn take_turns<R: Read>(
     counts: &mut [u64; COUNTS],
     money: &mut [i64; MONEY],
@@ -172,15 +144,14 @@ fn take_turns<R: Read>(
     block: &mut [u8],
     input: &mut R,
     q: Question,
-) -> Outcome
+) -> Result<Found, Damaged>
     requires followable { Followable q.account counts.old money.old labels.old amounts.old 0 }
     requires in_bounds { (4140 ≤ length block.old) × (length block.old ≤ 65536) }
     ensures { Sound counts.new money.new }
 {
     let mut w = first_window();
     let mut s = first_state();
-    let mut turns = TURNS;
-    while 0 < turns {
+    for _ in 0..TURNS {
         let turn = take_turn(
             &mut *counts,
             &mut *money,
@@ -195,20 +166,15 @@ fn take_turns<R: Read>(
             s,
         );
         match turn {
-            Turn::Ended(last) => {
-                let found = last.found;
-                return Outcome::Followed(found);
-            }
-            Turn::Damaged(place) => return Outcome::Damaged(place),
-            Turn::On(next, more) => {
+            ControlFlow::Break(Ok(last)) => return Ok(last.found),
+            ControlFlow::Break(Err(damaged)) => return Err(damaged),
+            ControlFlow::Continue((next, more)) => {
                 w = next;
                 s = more;
             }
         }
-        turns -= 1;
     }
-    let found = s.found;
-    Outcome::Followed(found)
+    Ok(s.found)
 }
 
 // Puts what was found, unless it stands on the page already, and answers how long the page is.
@@ -222,10 +188,10 @@ fn put_found(page: &mut [u8], q: Question, found: Found) -> usize {
 }
 
 // Puts the answer.
-fn put_outcome(page: &mut [u8], q: Question, outcome: Outcome) -> usize {
+fn put_outcome(page: &mut [u8], q: Question, outcome: Result<Found, Damaged>) -> usize {
     match outcome {
-        Outcome::Followed(found) => put_found(page, q, found),
-        Outcome::Damaged(place) => put_damaged(page, place),
+        Ok(found) => put_found(page, q, found),
+        Err(damaged) => put_damaged(page, damaged.place),
     }
 }
 

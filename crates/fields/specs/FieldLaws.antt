@@ -1,10 +1,11 @@
 -- What follows for records: how many fields a kind has, which are signed, and what a record's shape tells.
 use Rattle.std.proofs.Math.Path.{◌≡◌, refl}
-use Rattle.std.proofs.Common.{sym, zero-le, leb→le}
-use Rattle.std.specs.Prelude.{Bool, ◌&&◌, ℕ, zero, suc, ◌≤◌, ◌<◌, T, ltb, eqb, drop, replicate}
+use Rattle.std.proofs.Common.{sym, ap, zero-le, leb→le}
+use Rattle.std.specs.Prelude.{Bool, ◌&&◌, ℕ, zero, suc, ◌≤◌, ◌<◌, T, ltb, eqb, drop, replicate, Some, None}
 use Rattle.std.proofs.Math.Bool.{true, false, cond, and-eq-true_iff}
 use Rattle.std.specs.Bool.{beq}
-use mathlib.Core.List.{List, [], map}
+use mathlib.Core.List.{List, [], ◌∷◌, map}
+use Rattle.std.specs.List.{list_all}
 use Rattle.std.proofs.Math.Decide.{dec_lt}
 use native.Mathlib.Omega.{arith}
 use Rattle.std.proofs.Math.Dec.{leb}
@@ -13,7 +14,6 @@ use Rattle.std.proofs.lemmas.List.{length-map}
 use borrow.Author.Tests.{lt-ltb, le-ltb, ne_eqb, leb-true, ltb-true, eqb-true}
 use Rattle.lists.specs.Table.{every, at_each}
 use Rattle.lists.specs.Passing.{all}
-use Rattle.fields.specs.declared.Count.TheVariants.{Of, Unknown}
 use Rattle.fields.specs.Fields.{ceilings, is_signed, kinds, fields_of, known, count, count_of, signed_at, announced, is_zero, shaped}
 
 -- ---- how many fields
@@ -48,20 +48,20 @@ module _ (kind : ℕ) where
       go (yes h) = rw (← get_or-map length kinds kind []) (leb→le _ 13 (at_each (λ k n. leb n 13) (map length kinds) tt kind h))
       go (no h) = rw (no_fields (omega arith)) (omega arith)
 
-  pub counted : (n : ℕ) → count_of kind ≡ Of n → (kind < 13) × (n ≡ count kind)
+  pub counted : (n : ℕ) → count_of kind ≡ Some n → (kind < 13) × (n ≡ count kind)
   unfolding kinds
   counted n e = go (known kind) refl e
     where
-      go : (t : Bool) → known kind ≡ t → cond t (Of (count kind)) Unknown ≡ Of n → (kind < 13) × (n ≡ count kind)
+      go : (t : Bool) → known kind ≡ t → cond t (Some (count kind)) None ≡ Some n → (kind < 13) × (n ≡ count kind)
       go true p q = (ltb-true kind 13 p, cc)
       go false p q = let z : ◌≡◌ {A = ℕ} 0 1 = cc in absurd (omega arith)
 
-  pub uncounted : count_of kind ≡ Unknown → 13 ≤ kind
+  pub uncounted : count_of kind ≡ None → 13 ≤ kind
   unfolding kinds
   uncounted e = go (dec_lt kind 13)
     where
       go : Dec (kind < 13) → 13 ≤ kind
-      go (yes h) = let q : cond true (Of (count kind)) Unknown ≡ Unknown = rw (is_known h) at e in let z : ◌≡◌ {A = ℕ} 0 1 = cc in absurd (omega arith)
+      go (yes h) = let q : cond true (Some (count kind)) None ≡ None = rw (is_known h) at e in let z : ◌≡◌ {A = ℕ} 0 1 = cc in absurd (omega arith)
       go (no h) = omega arith
 
 -- ---- which fields are signed
@@ -105,6 +105,13 @@ signed_is kind field = go (dec_lt kind 13) (dec_lt field 13)
         rw (get_or-eq_default (map is_signed (fields_of kind)) false m, le-ltb field 7 (omega arith), lt-ltb 0 field (omega arith), ne_eqb field 5 (omega arith), ne_eqb field 3 (omega arith), ne_eqb field 0 (omega arith))
         (sym (none-signed (eqb kind 7) (eqb kind 8) (eqb kind 9) (eqb kind 12)))
     go (no h) k = rw (no_fields kind (omega arith), ne_eqb kind 7 (omega arith), ne_eqb kind 8 (omega arith), ne_eqb kind 9 (omega arith), ne_eqb kind 12 (omega arith))
+
+-- ---- all elements, tested by the library
+
+pub all-listed : (test : ℕ → Bool) (l : List ℕ) → list_all test l ≡ all test l
+unfolding all
+all-listed test [] = refl
+all-listed test (x ∷ l) = ap (λ t. test x && t) (all-listed test l)
 
 -- ---- what a record's shape tells
 

@@ -1,8 +1,6 @@
 -- Records: what document 01, 'Units and ceilings' and 'Event records', says of kinds and fields.
-use Rattle.std.specs.Prelude.{Bool, true, false, ◌&&◌, cond, List, [], ◌∷◌, map, ℕ, ◌^◌, eqb, leb, ltb, length, get_or, drop}
+use Rattle.std.specs.Prelude.{Bool, true, false, ◌&&◌, cond, List, [], ◌∷◌, map, ℕ, ◌^◌, eqb, leb, ltb, length, get_or, drop, Option, Some, None}
 use Rattle.lists.specs.Passing.{all}
-use Rattle.fields.specs.declared.Count.{Count}
-use Rattle.fields.specs.declared.Count.TheVariants.{Of, Unknown}
 
 -- ---- what a field holds
 
@@ -72,8 +70,8 @@ known kind = ltb kind (length kinds)
 abbrev pub count : ℕ → ℕ
 count kind = length (fields_of kind)
 
-abbrev pub count_of : ℕ → Count
-count_of kind = cond (known kind) (Of (count kind)) Unknown
+abbrev pub count_of : ℕ → Option ℕ
+count_of kind = cond (known kind) (Some (count kind)) None
 
 -- whether a field of a kind is a signed one; past the kind's fields there is none
 abbrev pub signed_at : ℕ → ℕ → Bool

@@ -11,46 +11,36 @@ pub const WIDTH: usize = 13;
 // The most exceptions that a start record may have.
 pub const EXCEPTIONS: u64 = 400;
 
-// How many fields a kind has, the exceptions not counted.
-#[derive(Clone, Copy)]
-pub enum Count {
-    Of(usize),
-    Unknown,
-}
-
 // A record is a kind and its fields: the kind's number decides how many there are.
-pub fn count_of(kind: u64) -> Count
+// The kind stays a number, here and in all that reads, checks and writes records: it comes as bytes, and an unknown one has its own answer.
+#[tactic(auto, using(crate::specs::FieldLaws::none_below), unfolding(crate::specs::Fields::kinds))]
+pub fn count_of(kind: u64) -> Option<usize>
     ensures { result ≡ count_of kind }
 {
     match kind {
-        0 => Count::Of(3),
-        1 => Count::Of(3),
-        2 => Count::Of(2),
-        3 => Count::Of(2),
-        4 => Count::Of(2),
-        5 => Count::Of(2),
-        6 => Count::Of(3),
-        7 => Count::Of(13),
-        8 => Count::Of(6),
-        9 => Count::Of(4),
-        10 => Count::Of(0),
-        11 => Count::Of(0),
-        12 => Count::Of(1),
-        13.. => Count::Unknown,
+        0 => Some(3),
+        1 => Some(3),
+        2 => Some(2),
+        3 => Some(2),
+        4 => Some(2),
+        5 => Some(2),
+        6 => Some(3),
+        7 => Some(13),
+        8 => Some(6),
+        9 => Some(4),
+        10 => Some(0),
+        11 => Some(0),
+        12 => Some(1),
+        13.. => None,
     }
 }
 
 // Whether a field of a kind is a rate, the only signed quantity.
+#[tactic(auto, using(crate::specs::FieldLaws::signed_is))]
 pub fn is_signed(kind: u64, field: usize) -> bool
     ensures { result ≡ signed_at kind field }
 {
-    match kind {
-        7 => 0 < field && field < 7,
-        8 => field == 5,
-        9 => field == 3,
-        12 => field == 0,
-        _ => false,
-    }
+    matches!((kind, field), (7, 1..=6) | (8, 5) | (9, 3) | (12, 0))
 }
 
 // How many exceptions a record announces: a start record in its third field, any other none.
@@ -64,14 +54,7 @@ pub fn announced(kind: u64, fields: [u64; WIDTH]) -> u64
 fn are_zero(fields: [u64; WIDTH], first: usize) -> bool
     ensures { result ≡ all is_zero (drop first fields) }
 {
-    let mut i = first;
-    while i < WIDTH {
-        if fields[i] != 0 {
-            return false;
-        }
-        i += 1;
-    }
-    true
+    fields.iter().skip(first).all(|field| *field == 0)
 }
 
 // Whether bytes can say this record: a known kind, nothing past its fields, and the exceptions that it announces, at
@@ -79,15 +62,9 @@ fn are_zero(fields: [u64; WIDTH], first: usize) -> bool
 pub fn is_shaped(kind: u64, fields: [u64; WIDTH], exceptions: usize) -> bool
     ensures { result ≡ shaped kind fields exceptions }
 {
-    let Count::Of(count) = count_of(kind) else {
+    let Some(count) = count_of(kind) else {
         return false;
     };
-    if !are_zero(fields, count) {
-        return false;
-    }
     let announced = announced(kind, fields);
-    if EXCEPTIONS < announced {
-        return false;
-    }
-    exceptions as u64 == announced
+    are_zero(fields, count) && announced <= EXCEPTIONS && exceptions as u64 == announced
 }

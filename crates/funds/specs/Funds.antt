@@ -1,10 +1,13 @@
 -- What an account has, and what closes, settlements and payments make of it.
-use Rattle.std.specs.Prelude.{true, false, cond, ℕ, ℤ, pos, neg_ℤ, ◌+ℤ◌, ◌-ℤ◌}
+use Rattle.std.specs.Prelude.{true, false, cond, ℕ, Result, Ok, Err, ℤ, pos, neg_ℤ, ◌+ℤ◌, ◌-ℤ◌}
 use Rattle.std.specs.Int.Signed.{lt_z, le_z}
 use Rattle.funds.specs.declared.Funds.{Funds}
 use Rattle.funds.specs.declared.Settlement.{Settlement}
-use Rattle.funds.specs.declared.Payment.{Payment}
-use Rattle.funds.specs.declared.Payment.TheVariants.{Made, InDefault, TooMuch, Full}
+use Rattle.funds.specs.declared.PaymentError.{PaymentError}
+use Rattle.funds.specs.declared.PaymentError.TheVariants.{InDefault, TooMuch, Full}
+use Rattle.refusals.specs.Refusals.{number_of}
+use Rattle.refusals.specs.declared.Refusal.{Refusal}
+use Rattle.refusals.specs.declared.Refusal.TheVariants as refusals
 
 -- Document 01, Trade: "A new account has .. zero cash, margin, due, requirement, free .. with the flag clear."
 unfoldable pub new_funds : Funds
@@ -83,35 +86,36 @@ with_money f cash margin = record {
 abbrev pub cash_most : ℤ
 cash_most = pos 100000000000000000
 
-unfoldable pub paid_in : Funds → ℤ → Payment
+unfoldable pub paid_in : Funds → ℤ → Result Funds PaymentError
 paid_in f amount =
-    cond (lt_z cash_most ((f.cash +ℤ amount) +ℤ f.margin)) Full
-    (Made (with_money f (f.cash +ℤ amount) f.margin))
+    cond (lt_z cash_most ((f.cash +ℤ amount) +ℤ f.margin)) (Err Full)
+    (Ok (with_money f (f.cash +ℤ amount) f.margin))
 
 -- "pay out takes it from there". Refusal 12: "account in default (trade, release, pay out)". Refusal 15: "more than cash (pay
 -- out) or than may be released".
-unfoldable pub paid_out : Funds → ℤ → Payment
+unfoldable pub paid_out : Funds → ℤ → Result Funds PaymentError
 paid_out f amount =
-    cond f.flag InDefault
-    (cond (lt_z f.cash amount) TooMuch
-    (Made (with_money f (f.cash -ℤ amount) f.margin)))
+    cond f.flag (Err InDefault)
+    (cond (lt_z f.cash amount) (Err TooMuch)
+    (Ok (with_money f (f.cash -ℤ amount) f.margin)))
 
 -- Document 01, Release: "margin to cash, at most margin - requirement".
-unfoldable pub released : Funds → ℤ → Payment
+unfoldable pub released : Funds → ℤ → Result Funds PaymentError
 released f amount =
-    cond f.flag InDefault
-    (cond (lt_z (f.margin -ℤ f.requirement) amount) TooMuch
-    (Made (with_money f (f.cash +ℤ amount) (f.margin -ℤ amount))))
+    cond f.flag (Err InDefault)
+    (cond (lt_z (f.margin -ℤ f.requirement) amount) (Err TooMuch)
+    (Ok (with_money f (f.cash +ℤ amount) (f.margin -ℤ amount))))
 
--- the refusal that an answer stands for, and the money after it
-abbrev pub refusal_of : Payment → ℕ
-refusal_of (Made f) = 0
-refusal_of InDefault = 12
-refusal_of TooMuch = 15
-refusal_of Full = 17
+-- the refusal that an error stands for, its number, and the money after an answer
+abbrev pub refusal_for : PaymentError → Refusal
+refusal_for InDefault = refusals.InDefault
+refusal_for TooMuch = refusals.TooMuch
+refusal_for Full = refusals.PaysInTooMuch
 
-abbrev pub after : Funds → Payment → Funds
-after f (Made g) = g
-after f InDefault = f
-after f TooMuch = f
-after f Full = f
+abbrev pub refusal_of : Result Funds PaymentError → ℕ
+refusal_of (Ok f) = 0
+refusal_of (Err e) = number_of (refusal_for e)
+
+abbrev pub after : Funds → Result Funds PaymentError → Funds
+after f (Ok g) = g
+after f (Err e) = f

@@ -1,5 +1,5 @@
 -- What closes, settlements and payments move, and what they leave as it was.
-use Rattle.std.specs.Prelude.{◌≡◌, ℤ, neg_ℤ, ◌+ℤ◌, ◌-ℤ◌, ◌≤ℤ◌, ◌<ℤ◌}
+use Rattle.std.specs.Prelude.{◌≡◌, Result, Ok, Err, ℤ, neg_ℤ, ◌+ℤ◌, ◌-ℤ◌, ◌≤ℤ◌, ◌<ℤ◌}
 use Rattle.std.proofs.Math.Path.{refl, sym, ap}
 use Rattle.std.proofs.Common.{◌∙◌, subst, true≢false, arith}
 use Rattle.std.proofs.Math.Bool.{true, false}
@@ -14,8 +14,8 @@ use Rattle.funds.specs.Funds.{with_money, cash_most, paid_in, paid_out, released
 use Rattle.funds.specs.Bounds.{Billed}
 use Rattle.funds.specs.declared.Funds.{Funds}
 use Rattle.funds.specs.declared.Settlement.{Settlement}
-use Rattle.funds.specs.declared.Payment.{Payment}
-use Rattle.funds.specs.declared.Payment.TheVariants.{Made, InDefault, TooMuch, Full}
+use Rattle.funds.specs.declared.PaymentError.{PaymentError}
+use Rattle.funds.specs.declared.PaymentError.TheVariants.{InDefault, TooMuch, Full}
 
 -- ---- cases: what holds of each outcome holds of the answer
 module _ (P : Settlement → Type 0) (f : Funds) where
@@ -31,16 +31,16 @@ module _ (P : Settlement → Type 0) (f : Funds) where
       (λ u. covered (le-no refl refl t) (le_yes refl refl u))
       (λ u. short (le-no refl refl t) (le-no refl refl u)))
 
-module _ (P : Payment → Type 0) (f : Funds) (amount : ℤ) where
-  pub paid-in-keeps : P Full
-      → (((f.cash +ℤ amount) +ℤ f.margin) ≤ℤ cash_most → P (Made (with_money f (f.cash +ℤ amount) f.margin)))
+module _ (P : Result Funds PaymentError → Type 0) (f : Funds) (amount : ℤ) where
+  pub paid-in-keeps : P (Err Full)
+      → (((f.cash +ℤ amount) +ℤ f.margin) ≤ℤ cash_most → P (Ok (with_money f (f.cash +ℤ amount) f.margin)))
       → P (paid_in f amount)
   unfolding paid_in
   paid-in-keeps full made =
       cond-keeps P (lt_z cash_most ((f.cash +ℤ amount) +ℤ f.margin)) _ _ (λ t. full) (λ t. made (lt_no refl refl t))
 
-  pub paid-out-keeps : P InDefault → P TooMuch
-      → (amount ≤ℤ f.cash → P (Made (with_money f (f.cash -ℤ amount) f.margin)))
+  pub paid-out-keeps : P (Err InDefault) → P (Err TooMuch)
+      → (amount ≤ℤ f.cash → P (Ok (with_money f (f.cash -ℤ amount) f.margin)))
       → P (paid_out f amount)
   unfolding paid_out
   paid-out-keeps flag more made =
@@ -48,8 +48,8 @@ module _ (P : Payment → Type 0) (f : Funds) (amount : ℤ) where
       (λ t. flag)
       (λ t. cond-keeps P (lt_z f.cash amount) _ _ (λ u. more) (λ u. made (lt_no refl refl u)))
 
-  pub released-keeps : P InDefault → P TooMuch
-      → (amount ≤ℤ (f.margin -ℤ f.requirement) → P (Made (with_money f (f.cash +ℤ amount) (f.margin -ℤ amount))))
+  pub released-keeps : P (Err InDefault) → P (Err TooMuch)
+      → (amount ≤ℤ (f.margin -ℤ f.requirement) → P (Ok (with_money f (f.cash +ℤ amount) (f.margin -ℤ amount))))
       → P (released f amount)
   unfolding released
   released-keeps flag more made =
@@ -218,47 +218,45 @@ module _ (f : Funds) (bill : Billed f) where
 -- Each refusal in its case, and in no other. Document 01, Refusal numbers: "17 | pay in: cash + margin would exceed 10^17", "12 |
 -- account in default", "15 | more than cash (pay out) or than may be released".
 module _ (f : Funds) (amount : ℤ) where
-  pub paid-in-full : cash_most <ℤ ((f.cash +ℤ amount) +ℤ f.margin) → paid_in f amount ≡ Full
+  pub paid-in-full : cash_most <ℤ ((f.cash +ℤ amount) +ℤ f.margin) → paid_in f amount ≡ Err Full
   unfolding paid_in
   paid-in-full h = rw (lt-true h)
 
   pub paid-in-made : ((f.cash +ℤ amount) +ℤ f.margin) ≤ℤ cash_most
-      → paid_in f amount ≡ Made (with_money f (f.cash +ℤ amount) f.margin)
+      → paid_in f amount ≡ Ok (with_money f (f.cash +ℤ amount) f.margin)
   unfolding paid_in
   paid-in-made h = rw (lt-false h)
 
-  pub paid-out-default : f.flag ≡ true → paid_out f amount ≡ InDefault
+  pub paid-out-default : f.flag ≡ true → paid_out f amount ≡ Err InDefault
   unfolding paid_out
   paid-out-default e = rw e
 
-  pub paid-out-more : f.flag ≡ false → f.cash <ℤ amount → paid_out f amount ≡ TooMuch
+  pub paid-out-more : f.flag ≡ false → f.cash <ℤ amount → paid_out f amount ≡ Err TooMuch
   unfolding paid_out
   paid-out-more e h = rw (e, lt-true h)
 
   pub paid-out-made : f.flag ≡ false → amount ≤ℤ f.cash
-      → paid_out f amount ≡ Made (with_money f (f.cash -ℤ amount) f.margin)
+      → paid_out f amount ≡ Ok (with_money f (f.cash -ℤ amount) f.margin)
   unfolding paid_out
   paid-out-made e h = rw (e, lt-false h)
 
-  pub released-default : f.flag ≡ true → released f amount ≡ InDefault
+  pub released-default : f.flag ≡ true → released f amount ≡ Err InDefault
   unfolding released
   released-default e = rw e
 
-  pub released-more : f.flag ≡ false → (f.margin -ℤ f.requirement) <ℤ amount → released f amount ≡ TooMuch
+  pub released-more : f.flag ≡ false → (f.margin -ℤ f.requirement) <ℤ amount → released f amount ≡ Err TooMuch
   unfolding released
   released-more e h = rw (e, lt-true h)
 
   pub released-made : f.flag ≡ false → amount ≤ℤ (f.margin -ℤ f.requirement)
-      → released f amount ≡ Made (with_money f (f.cash +ℤ amount) (f.margin -ℤ amount))
+      → released f amount ≡ Ok (with_money f (f.cash +ℤ amount) (f.margin -ℤ amount))
   unfolding released
   released-made e h = rw (e, lt-false h)
 
 -- a refusal changes nothing
-pub refused-same : (f : Funds) (p : Payment) → ¬ (refusal_of p ≡ 0) → after f p ≡ f
-refused-same f (Made g) refused = absurd (refused refl)
-refused-same f InDefault refused = refl
-refused-same f TooMuch refused = refl
-refused-same f Full refused = refl
+pub refused-same : (f : Funds) (p : Result Funds PaymentError) → ¬ (refusal_of p ≡ 0) → after f p ≡ f
+refused-same f (Ok g) refused = absurd (refused refl)
+refused-same f (Err e) refused = refl
 
 cash-worth : (f : Funds) (k : ℤ) → ((f.cash +ℤ k) +ℤ f.margin) +ℤ f.due ≡ worth f +ℤ k
 cash-worth f k = added f.cash f.margin f.due k

@@ -5,8 +5,10 @@
 ghost use Rattle.std.specs.Prelude.{◌≡◌};
 ghost use Rattle.whole.specs.Within.{Within};
 ghost use Rattle.whole.specs.Amounts.{Amount};
-ghost use Rattle.funds.specs.Funds.{new_funds, billed, paid_up, in_default, settled, paid_in, paid_out, released};
+ghost use Rattle.funds.specs.Funds.{new_funds, billed, paid_up, in_default, settled, paid_in, paid_out, released, refusal_for};
 ghost use Rattle.funds.specs.Bounds.{Sound, days_most, most_booked, requirement_most, free_most};
+
+use refusals::Refusal;
 
 // The money of an account, in fen, and its default flag. Requirement and free are the last close's.
 #[derive(Clone, Copy)]
@@ -27,13 +29,24 @@ pub struct Settlement {
     pub paid: i64,
 }
 
-// What a payment or a release answers: made, or why it is refused.
-#[derive(Clone, Copy)]
-pub enum Payment {
-    Made(Funds),
+// Why a payment or a release is not made.
+#[derive(Clone, Copy, PartialEq, Eq, Debug)]
+pub enum PaymentError {
     InDefault,
     TooMuch,
     Full,
+}
+
+impl From<PaymentError> for Refusal {
+    ghost from_gives = { λ e r. r ≡ refusal_for e };
+
+    fn from(e: PaymentError) -> Refusal {
+        match e {
+            PaymentError::InDefault => Refusal::InDefault,
+            PaymentError::TooMuch => Refusal::TooMuch,
+            PaymentError::Full => Refusal::PaysInTooMuch,
+        }
+    }
 }
 
 // The most that cash and margin may come to by a payment.
@@ -115,50 +128,50 @@ pub fn settled(f: Funds) -> Settlement
 }
 
 // Money in.
-pub fn pay_in(f: Funds, amount: i64) -> Payment
+pub fn pay_in(f: Funds, amount: i64) -> Result<Funds, PaymentError>
     requires { Sound days_most f × Amount 100000000000000 amount }
     ensures { result ≡ paid_in f amount }
 {
     let cash = f.cash + amount;
     if CASH_MOST < cash + f.margin {
-        return Payment::Full;
+        return Err(PaymentError::Full);
     }
     let mut x = f;
     x.cash = cash;
-    Payment::Made(x)
+    Ok(x)
 }
 
 // Money out, at most the cash.
-pub fn pay_out(f: Funds, amount: i64) -> Payment
+pub fn pay_out(f: Funds, amount: i64) -> Result<Funds, PaymentError>
     requires { Sound days_most f × Amount 100000000000000 amount }
     ensures { result ≡ paid_out f amount }
 {
     if f.flag {
-        return Payment::InDefault;
+        return Err(PaymentError::InDefault);
     }
     let cash = f.cash;
     if cash < amount {
-        return Payment::TooMuch;
+        return Err(PaymentError::TooMuch);
     }
     let mut x = f;
     x.cash = cash - amount;
-    Payment::Made(x)
+    Ok(x)
 }
 
 // Margin back to cash, at most what is above the requirement.
-pub fn release(f: Funds, amount: i64) -> Payment
+pub fn release(f: Funds, amount: i64) -> Result<Funds, PaymentError>
     requires { Sound days_most f × Amount 100000000000000 amount }
     ensures { result ≡ released f amount }
 {
     if f.flag {
-        return Payment::InDefault;
+        return Err(PaymentError::InDefault);
     }
     let margin = f.margin;
     if margin - f.requirement < amount {
-        return Payment::TooMuch;
+        return Err(PaymentError::TooMuch);
     }
     let mut x = f;
     x.cash = f.cash + amount;
     x.margin = margin - amount;
-    Payment::Made(x)
+    Ok(x)
 }

@@ -40,7 +40,8 @@ pub struct Totals {
     pub limit: i64,
 }
 
-// What one side says of a trade: it passes, the net is beyond what it may be, or it is over the limit.
+// What one side says of a trade: it passes, the net is beyond what it may be, or it is over the limit. No Result: both sides are weighed
+// together, and one over its limit has its totals too.
 #[derive(Clone, Copy)]
 pub enum Side {
     Passes(Totals),

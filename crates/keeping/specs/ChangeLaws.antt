@@ -1,5 +1,5 @@
 -- A special margin or limits set: the model's answer, and the memory of the book after it.
-use Rattle.std.specs.Prelude.{◌≡◌, List, [], ℕ, ltb, ℤ}
+use Rattle.std.specs.Prelude.{◌≡◌, List, [], ℕ, ltb, ℤ, Result, Ok, Err}
 use Rattle.std.proofs.Math.Path.{refl}
 use Rattle.std.proofs.Common.{sym, ap, ◌∙◌, subst}
 use Rattle.lists.specs.Padded.{padded}
@@ -20,8 +20,8 @@ use Rattle.standing.specs.MemberLaws.{held-row}
 use Rattle.standing.specs.SoundLaws.{sound-shaped, none_left}
 use Rattle.places.specs.Places.{place_in}
 use Rattle.places.specs.PlaceLaws.{Named, Names, refused-place, named}
-use Rattle.places.specs.declared.Place.{Place}
-use Rattle.places.specs.declared.Place.TheVariants.{Row, Refused}
+use Rattle.refusals.specs.Refusals.{number_of}
+use Rattle.refusals.specs.declared.Refusal.{Refusal}
 use Rattle.keeping.specs.Changes.{changed, change_call}
 use Rattle.keeping.specs.declared.members.Change.{Change}
 use Rattle.keeping.specs.declared.members.Change.TheVariants.{Special, Coming}
@@ -44,15 +44,15 @@ module _ (b : Book) (n : ℕ) where
   change-after (Special x) = refl
   change-after (Coming l) = refl
 
-module _ {c : List ℕ} {m : List ℤ} (s : Sound c m) (n : ℕ) (x : Change) {p : Place}
+module _ {c : List ℕ} {m : List ℤ} (s : Sound c m) (n : ℕ) (x : Change) {p : Result ℕ Refusal}
     (finds : p ≡ place_in c (ltb 0 (header_at c).point) n) where
   abbrev book : Book
   book = view c m
 
-  pub change-refused : {number : ℕ} → p ≡ Refused number → Made c m (change_call n x) number c m
+  pub change-refused : {refusal : Refusal} → p ≡ Err refusal → Made c m (change_call n x) (number_of refusal) c m
   change-refused = refused-place s n (change_call n x) (ltb 0) [] (change-names book n x) finds
 
-  module _ {i : ℕ} (q : p ≡ Row i) where
+  module _ {i : ℕ} (q : p ≡ Ok i) where
     pub changer : Named book c m (change_call n x) [] n i
     changer = named s n (change_call n x) (ltb 0) [] (change-names book n x) finds q
 

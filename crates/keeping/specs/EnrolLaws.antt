@@ -1,10 +1,8 @@
 -- An enrolment: the model's answer, and the memory of the book after it.
-use Rattle.std.specs.Prelude.{◌≡◌, true, false, not, List, [], ◌∷◌, ℕ, ◌≤◌, ◌<◌, ltb, ℤ, length}
+use Rattle.std.specs.Prelude.{◌≡◌, true, false, not, List, [], ◌∷◌, ℕ, ◌≤◌, ◌<◌, ltb, ℤ, length, Option, Some, None}
 use Rattle.std.proofs.Common.{sym, ap, ◌∙◌, arith, lt-ltb, le-ltb}
 use Rattle.std.proofs.Math.Path.{subst}
 use Rattle.lists.specs.Seek.{seek}
-use Rattle.lists.specs.declared.Found.{Found}
-use Rattle.lists.specs.declared.Found.TheVariants.{At, Nothing}
 use Rattle.holdings.specs.Bounds.{GoodReference}
 use Rattle.holdings.specs.declared.Limits.{Limits}
 use Rattle.accounts.specs.Accounts.{new_account}
@@ -44,16 +42,16 @@ module _ {c : List ℕ} {m : List ℤ} (s : Sound c m) (n : ℕ) (l : Limits) {h
   pub enrol-early : h.point ≡ 0 → Made c m (enrol n l) 3 c m
   enrol-early e = refused-made s (enrol n l) 2 (first-failed 2 _ (same_point s loads ∙ ap (ltb 0) e))
 
-  module _ (begun : h.point ≡ 0 → ⊥) {f : Found} (finds : f ≡ seek (number_at c) n (header_at c).members 0) where
+  module _ (begun : h.point ≡ 0 → ⊥) {f : Option ℕ} (finds : f ≡ seek (number_at c) n (header_at c).members 0) where
     started : is_started book.today.point ≡ true
     started = same_point s loads ∙ lt-ltb 0 h.point (omega arith)
 
-    pub enrol-known : {i : ℕ} → f ≡ At i → Made c m (enrol n l) 6 c m
+    pub enrol-known : {i : ℕ} → f ≡ Some i → Made c m (enrol n l) 6 c m
     enrol-known {i} e =
         refused-made s (enrol n l) 5
         (first-passed 3 _ started ∙ first-failed 5 _ (ap not (member-at g (sound-holds s) n i (sym finds ∙ e)).1.1))
 
-    module _ (e : f ≡ Nothing) where
+    module _ (e : f ≡ None) where
       fresh : is_member book n ≡ false
       fresh = member-none g (sound-holds s) n (sym finds ∙ e)
 

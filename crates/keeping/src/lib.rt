@@ -1,5 +1,5 @@
 // Calls that begin the book, enrol an account or set what it may hold: start, enrol, special margin and limits (document 01, 'The
-// day'). Each answers the number of its refusal, 0 where it is accepted.
+// day').
 #![tactic(auto)]
 
 mod members;

@@ -4,9 +4,11 @@ ghost use Rattle.days.specs.Days.{rising};
 ghost use Rattle.model.specs.Book.{Settings};
 ghost use Rattle.model.specs.Calls.{start as start_call};
 ghost use Rattle.standing.specs.Made.{Sound, Made};
+ghost use Rattle.refusals.specs.Refusals.{outcome_number};
 
 use days::is_accepted;
 use memory::{load_header, store_exceptions, store_header};
+use refusals::Refusal;
 
 // The reference rate, the multiplier and the exceptions, once and before all else.
 pub fn start(
@@ -15,16 +17,16 @@ pub fn start(
     reference: u64,
     multiplier: u64,
     exceptions: &[u64],
-) -> u64
+) -> Result<(), Refusal>
     requires { Sound counts.old money.now × ((rising exceptions.now ≡ true) × (length exceptions.now ≤ 400)) }
-    ensures { Made counts.old money.now (start_call (record { reference = reference; multiplier = multiplier; exceptions = exceptions.now })) result counts.new money.now }
+    ensures { Made counts.old money.now (start_call (record { reference = reference; multiplier = multiplier; exceptions = exceptions.now })) (outcome_number result) counts.new money.now }
 {
     let h = load_header(&counts[..]);
     if 0 < h.point {
-        return 3;
+        return Err(Refusal::NotNow);
     }
     if !is_accepted(exceptions) {
-        return 18;
+        return Err(Refusal::CalendarRefused);
     }
     let mut g = h;
     g.point = 1;
@@ -33,5 +35,5 @@ pub fn start(
     g.exceptions = exceptions.len() as u64;
     store_header(&mut *counts, g);
     store_exceptions(&mut *counts, exceptions);
-    0
+    Ok(())
 }

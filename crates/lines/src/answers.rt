@@ -20,8 +20,8 @@ fn put_refusal(room: &mut [u8], at: usize, kind: u64, number: u64) -> usize
     requires { at + 44 ≤ length room.old }
     ensures { Put room.old at (numeral kind ++ spaced (no ∷ numeral number ∷ [])) result room.new }
 {
-    let first = put_number(&mut *room, at, kind);
-    let second = put_word(&mut *room, first, b" no");
+    let first = put_number(room, at, kind);
+    let second = put_word(room, first, b" no");
     put_field(room, second, number)
 }
 
@@ -30,7 +30,7 @@ fn put_refused(room: &mut [u8], at: usize, kind: u64, number: u64) -> usize
     requires { at + 45 ≤ length room.old }
     ensures { Put room.old at (answer_text kind (refused number)) result room.new }
 {
-    let last = put_refusal(&mut *room, at, kind, number);
+    let last = put_refusal(room, at, kind, number);
     put_end(room, last)
 }
 
@@ -39,8 +39,8 @@ fn put_not_next(room: &mut [u8], at: usize, kind: u64, day: u64) -> usize
     requires { at + 66 ≤ length room.old }
     ensures { Put room.old at (answer_text kind (not_next day)) result room.new }
 {
-    let first = put_refusal(&mut *room, at, kind, 20);
-    let last = put_field(&mut *room, first, day);
+    let first = put_refusal(room, at, kind, 20);
+    let last = put_field(room, first, day);
     put_end(room, last)
 }
 
@@ -49,7 +49,7 @@ fn put_done(room: &mut [u8], at: usize, kind: u64) -> usize
     requires { at + 24 ≤ length room.old }
     ensures { Put room.old at (answer_text kind done) result room.new }
 {
-    let first = put_number(&mut *room, at, kind);
+    let first = put_number(room, at, kind);
     put_word(room, first, b" ok\n")
 }
 
@@ -64,10 +64,10 @@ fn put_closed(
     requires { Sound counts.now money.now × (at + 8400 ≤ length room.old) }
     ensures { Put room.old at (answer_text kind (report (report_of (view counts.now money.now)))) result room.new }
 {
-    let first = put_number(&mut *room, at, kind);
-    let second = put_word(&mut *room, first, b" ok");
-    let third = put_field(&mut *room, second, day_of(counts, money));
-    let last = put_end(&mut *room, third);
+    let first = put_number(room, at, kind);
+    let second = put_word(room, first, b" ok");
+    let third = put_field(room, second, day_of(counts, money));
+    let last = put_end(room, third);
     put_report(counts, money, room, last)
 }
 
@@ -86,8 +86,7 @@ pub fn put_answer(
     match answer {
         Answer::Refused(number) => put_refused(room, at, kind, number),
         Answer::NotNext(day) => put_not_next(room, at, kind, day),
-        Answer::Done => put_done(room, at, kind),
-        Answer::BothSides(_buyer, _seller) => put_done(room, at, kind),
+        Answer::Done | Answer::BothSides(_, _) => put_done(room, at, kind),
         Answer::Closed => put_closed(counts, money, room, at, kind),
     }
 }
@@ -97,7 +96,7 @@ pub fn put_bad(room: &mut [u8], at: usize, place: u64) -> usize
     requires { at + 30 ≤ length room.old }
     ensures { Put room.old at (bad_text place) result room.new }
 {
-    let next = put_word(&mut *room, at, b"bad");
-    let last = put_field(&mut *room, next, place);
+    let next = put_word(room, at, b"bad");
+    let last = put_field(room, next, place);
     put_end(room, last)
 }

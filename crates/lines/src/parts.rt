@@ -10,7 +10,7 @@ pub(crate) fn put_field(room: &mut [u8], at: usize, number: u64) -> usize
     requires { at + 21 ≤ length room.old }
     ensures { Put room.old at (32 ∷ numeral number) result room.new }
 {
-    let next = put_word(&mut *room, at, b" ");
+    let next = put_word(room, at, b" ");
     put_number(room, next, number)
 }
 
@@ -19,7 +19,7 @@ pub(crate) fn put_signed_field(room: &mut [u8], at: usize, number: i64) -> usize
     requires { at + 22 ≤ length room.old }
     ensures { Put room.old at (32 ∷ signed_numeral number) result room.new }
 {
-    let next = put_word(&mut *room, at, b" ");
+    let next = put_word(room, at, b" ");
     put_signed(room, next, number)
 }
 

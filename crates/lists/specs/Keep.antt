@@ -1,16 +1,14 @@
 -- What holds of a choice, of a search's outcome and of each element of a list after a store, from what holds of the parts.
-use Rattle.std.specs.Prelude.{◌≡◌, refl, Bool, true, false, cond, List, [], ◌∷◌, ◌++◌, map, ℕ, zero, suc, get_or, set, replicate}
-use Rattle.lists.specs.declared.Found.{Found}
-use Rattle.lists.specs.declared.Found.TheVariants.{At, Nothing}
+use Rattle.std.specs.Prelude.{◌≡◌, refl, Bool, true, false, cond, List, [], ◌∷◌, ◌++◌, map, ℕ, zero, suc, get_or, set, replicate, Option, Some, None}
 use Rattle.lists.specs.Seek.{on_found}
 
 pub cond-keeps : {A : Type 0} (P : A → Type 0) (t : Bool) (x y : A) → (t ≡ true → P x) → (t ≡ false → P y) → P (cond t x y)
 cond-keeps P true x y p q = p refl
 cond-keeps P false x y p q = q refl
 
-pub found-keeps : {A : Type 0} (P : A → Type 0) (f : Found) (none : A) (some : ℕ → A) → P none → ((i : ℕ) → f ≡ At i → P (some i)) → P (on_found f none some)
-found-keeps P (At i) none some p q = q i refl
-found-keeps P Nothing none some p q = p
+pub found-keeps : {A : Type 0} (P : A → Type 0) (f : Option ℕ) (none : A) (some : ℕ → A) → P none → ((i : ℕ) → f ≡ Some i → P (some i)) → P (on_found f none some)
+found-keeps P (Some i) none some p q = q i refl
+found-keeps P None none some p q = p
 
 pub set_keeps : {X : Type 0} (P : X → Type 0) (d : X) (l : List X) (i n : ℕ) (x : X) → P x → P (get_or l n d) → P (get_or (set l i x) n d)
 set_keeps P d [] i n x p q = q

@@ -1,9 +1,8 @@
 -- A list of keys with no key twice: one key's value changed is one store, and a search by number is membership.
-use Rattle.std.specs.Prelude.{◌≡◌, true, false, cond, ◌||◌, ℕ, zero, suc, ◌<◌, eqb, length, get_or, set}
+use Rattle.std.specs.Prelude.{◌≡◌, true, false, cond, ◌||◌, ℕ, zero, suc, ◌<◌, eqb, length, get_or, set, Some, None}
 use Rattle.std.proofs.Math.Path.{refl, ap₂}
 use Rattle.std.proofs.Common.{sym, ap, ◌∙◌, subst, arith, eq-eqb, ne_eqb}
 use mathlib.Core.List.{List, [], ◌∷◌, map}
-use Rattle.lists.specs.declared.Found.TheVariants.{At, Nothing}
 use Rattle.lists.specs.Has.{has, Distinct}
 use Rattle.lists.specs.HasLaws.{when_true, when_false, neither, or_right, eqb-flip, has-apart}
 use Rattle.lists.specs.Seek.{seek, seek-below, seek-hits, seek-misses}
@@ -39,12 +38,12 @@ module _ {A : Type 0} (f : ℕ → A) where
       (map-changed ks i a d.1 (omega arith))
 
 -- ---- a search among the keys
-pub found_at : (ks : List ℕ) (n i : ℕ) → seek (λ j. get_or ks j 0) n (length ks) 0 ≡ At i
+pub found_at : (ks : List ℕ) (n i : ℕ) → seek (λ j. get_or ks j 0) n (length ks) 0 ≡ Some i
     → (i < length ks) × ((get_or ks i 0 ≡ n) × (has n ks ≡ true))
 found_at ks n i e =
     let below : i < length ks = omega (arith, seek-below (λ j. get_or ks j 0) n (length ks) 0 i e) in
     let hit : get_or ks i 0 ≡ n = seek-hits (λ j. get_or ks j 0) n (length ks) 0 i e in
     (below, (hit, subst (λ k. has k ks ≡ true) hit (has-at ks i below)))
 
-pub found_none : (ks : List ℕ) (n : ℕ) → seek (λ j. get_or ks j 0) n (length ks) 0 ≡ Nothing → has n ks ≡ false
+pub found_none : (ks : List ℕ) (n : ℕ) → seek (λ j. get_or ks j 0) n (length ks) 0 ≡ None → has n ks ≡ false
 found_none ks n e = has-nowhere ks n (λ i h. seek-misses (λ j. get_or ks j 0) n (length ks) 0 i e (omega arith) (omega arith))

@@ -4,9 +4,9 @@ use mathlib.Core.List.{List, [], ◌∷◌, ◌++◌}
 use Prim.Native.Nat.{ℕ, ◌+◌, ◌≤◌, ◌<◌}
 use native.Mathlib.Nat.{zero-add, suc-add}
 use native.Mathlib.Omega.{arith}
-use lib.ListN.{length, get_or, set, take, drop, replicate, length-set, length-drop, length-replicate, get_or-replicate, take-append-drop}
+use lib.ListN.{length, get_or, set, take, drop, length-set, length-drop, take-append-drop}
 use lib.Seq.{length-take-le, take_all}
-use Rattle.lists.specs.Parts.{with_part, with_part-all, onto, onto-step}
+use Rattle.lists.specs.Parts.{with_part, onto, onto-step}
 
 pub record Written {X : Type 0} (b : ℕ) (v s l : List X) (i : ℕ) : Type 0 where
   pub upto : i ≤ length v
@@ -35,29 +35,3 @@ module _ {X : Type 0} (b : ℕ) (v s : List X) (h : b + length v ≤ length s) w
 
     pub written_all : length v ≤ i → l ≡ with_part b (length v) s v
     written_all q = let e : i ≡ length v = omega arith in k.is ∙ rw (e, take_all (length v) v (omega arith))
-
--- what a loop keeps that writes one value everywhere
-module _ {X : Type 0} (x : X) (s : List X) where
-  abbrev cleared : List X
-  cleared = replicate (length s) x
-
-  abbrev pub Cleared : List X → ℕ → Type 0
-  Cleared l i = Written 0 cleared s l i
-
-  room : 0 + length cleared ≤ length s
-  room = omega (arith, length-replicate (length s) x)
-
-  pub cleared-none : Cleared s 0
-  cleared-none = written_none 0 cleared s room
-
-  module _ (l : List X) (i : ℕ) (k : Cleared l i) where
-    pub cleared_more : i < length l → Cleared (set l i x) (i + 1)
-    cleared_more q =
-        let h : i < length s = omega (arith, k.long) in
-        rw (zero-add i, get_or-replicate (length s) i x x h) at
-        (written-more 0 cleared s room l i k x (omega (arith, length-replicate (length s) x)))
-
-    pub cleared-all : length l ≤ i → l ≡ cleared
-    cleared-all q =
-        written_all 0 cleared s room l i k (omega (arith, k.long, length-replicate (length s) x))
-        ∙ with_part-all (length cleared) s cleared (sym (length-replicate (length s) x))

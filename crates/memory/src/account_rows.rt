@@ -1,13 +1,15 @@
 // The rows of the enrolled accounts.
 ghost use Rattle.std.specs.Prelude.{◌≡◌, [], ◌∷◌, ◌+◌, ◌<◌, ◌≤◌, length};
 ghost use Rattle.lists.specs.Block.{block};
-ghost use Rattle.memory.specs.Rows.{flag_cell, position_of, positions_of, funds_of, holdings_of, account_of, account_counts, position_cells, six_positions, held_cells, funds_cells, account_money};
+ghost use Rattle.memory.specs.Rows.{position_of, positions_of, funds_of, holdings_of, account_counts, position_cells, six_positions, held_cells, funds_cells, account_money};
 ghost use Rattle.memory.specs.Layout.{Long, account_at, with_account_counts, with_account_money};
 
+use crate::cells::put_cells;
 use accounts::Account;
 use funds::Funds;
 use holdings::{Holdings, Limits};
 use positions::Position;
+use std::array;
 
 fn position_in(m: &[i64], k: usize) -> Position
     requires { k + 3 ≤ length m.now }
@@ -24,27 +26,20 @@ fn positions_in(m: &[i64]) -> [Position; 6]
     requires { length m.now ≡ 29 }
     ensures { result ≡ positions_of m.now }
 {
-    let first = position_in(m, 11);
-    let second = position_in(m, 14);
-    let third = position_in(m, 17);
-    let fourth = position_in(m, 20);
-    let fifth = position_in(m, 23);
-    let sixth = position_in(m, 26);
-    [first, second, third, fourth, fifth, sixth]
+    array::from_fn(|k| position_in(m, 11 + k * 3))
 }
 
 fn funds_in(c: &[u64], m: &[i64]) -> Funds
     requires { (length c.now ≡ 4) × (length m.now ≡ 29) }
     ensures { result ≡ funds_of c.now m.now }
 {
-    let flag = c[3] == 1;
     Funds {
         cash: m[6],
         margin: m[7],
         due: m[8],
         requirement: m[9],
         free: m[10],
-        flag,
+        flag: c[3] == 1,
     }
 }
 
@@ -52,36 +47,20 @@ fn holdings_in(c: &[u64], m: &[i64]) -> Holdings
     requires { (length c.now ≡ 4) × (length m.now ≡ 29) }
     ensures { result ≡ holdings_of c.now m.now }
 {
-    let limits = Limits {
-        clearing: c[1],
-        tolerance: m[0],
-    };
-    let coming = Limits {
-        clearing: c[2],
-        tolerance: m[1],
-    };
-    let positions = positions_in(m);
     Holdings {
-        limits,
-        coming,
+        limits: Limits {
+            clearing: c[1],
+            tolerance: m[0],
+        },
+        coming: Limits {
+            clearing: c[2],
+            tolerance: m[1],
+        },
         core: m[2],
         special: m[3],
         dayend: m[4],
         variation: m[5],
-        positions,
-    }
-}
-
-fn account_in(c: &[u64], m: &[i64]) -> Account
-    requires { (length c.now ≡ 4) × (length m.now ≡ 29) }
-    ensures { result ≡ account_of c.now m.now }
-{
-    let holdings = holdings_in(c, m);
-    let funds = funds_in(c, m);
-    Account {
-        number: c[0],
-        holdings,
-        funds,
+        positions: positions_in(m),
     }
 }
 
@@ -91,92 +70,57 @@ pub fn load_account(counts: &[u64], money: &[i64], i: usize) -> Account
 {
     let a = 500 + i * 4;
     let b = 61 + i * 29;
-    account_in(&counts[a..a + 4], &money[b..b + 29])
-}
-
-fn flag_cell(flag: bool) -> u64
-    ensures { result ≡ flag_cell flag }
-{
-    if flag {
-        return 1;
+    let c = &counts[a..a + 4];
+    let m = &money[b..b + 29];
+    Account {
+        number: c[0],
+        holdings: holdings_in(c, m),
+        funds: funds_in(c, m),
     }
-    0
 }
 
-fn put_account_counts(row: &mut [u64], x: Account)
-    requires { length row.old ≡ 4 }
-    ensures { row.new ≡ account_counts x }
+fn account_counts(x: Account) -> [u64; 4]
+    ensures { result ≡ account_counts x }
 {
-    let holdings = x.holdings;
-    let limits = holdings.limits;
-    let coming = holdings.coming;
-    let funds = x.funds;
-    let flag = flag_cell(funds.flag);
-    row[0] = x.number;
-    row[1] = limits.clearing;
-    row[2] = coming.clearing;
-    row[3] = flag;
+    [
+        x.number,
+        x.holdings.limits.clearing,
+        x.holdings.coming.clearing,
+        u64::from(x.funds.flag),
+    ]
 }
 
-fn put_held(row: &mut [i64], h: Holdings)
-    requires { length row.old ≡ 6 }
-    ensures { row.new ≡ held_cells h }
+fn held_cells(h: Holdings) -> [i64; 6]
+    ensures { result ≡ held_cells h }
 {
-    let limits = h.limits;
-    let coming = h.coming;
-    let tolerance = limits.tolerance;
-    let next = coming.tolerance;
-    let core = h.core;
-    let special = h.special;
-    let dayend = h.dayend;
-    let variation = h.variation;
-    row[0] = tolerance;
-    row[1] = next;
-    row[2] = core;
-    row[3] = special;
-    row[4] = dayend;
-    row[5] = variation;
+    [
+        h.limits.tolerance,
+        h.coming.tolerance,
+        h.core,
+        h.special,
+        h.dayend,
+        h.variation,
+    ]
 }
 
-fn put_funds(row: &mut [i64], f: Funds)
-    requires { length row.old ≡ 5 }
-    ensures { row.new ≡ funds_cells f }
+fn funds_cells(f: Funds) -> [i64; 5]
+    ensures { result ≡ funds_cells f }
 {
-    let cash = f.cash;
-    let margin = f.margin;
-    let due = f.due;
-    let requirement = f.requirement;
-    let free = f.free;
-    row[0] = cash;
-    row[1] = margin;
-    row[2] = due;
-    row[3] = requirement;
-    row[4] = free;
+    [f.cash, f.margin, f.due, f.requirement, f.free]
 }
 
-fn put_position(row: &mut [i64], p: Position)
-    requires { length row.old ≡ 3 }
-    ensures { row.new ≡ position_cells p }
+fn position_cells(p: Position) -> [i64; 3]
+    ensures { result ≡ position_cells p }
 {
-    let before = p.before;
-    let net = p.net;
-    let cost = p.cost;
-    row[0] = before;
-    row[1] = net;
-    row[2] = cost;
+    [p.before, p.net, p.cost]
 }
 
 fn put_positions(row: &mut [i64], h: Holdings)
     requires { length row.old ≡ 18 }
     ensures { row.new ≡ block position_cells (six_positions h) }
 {
-    let positions = h.positions;
-    let mut k: usize = 0;
-    while k < 6 {
-        let p = positions[k];
-        let a = k * 3;
-        put_position(&mut row[a..a + 3], p);
-        k += 1;
+    for (k, p) in h.positions.iter().enumerate() {
+        put_cells(row, k * 3, &position_cells(*p));
     }
 }
 
@@ -184,19 +128,16 @@ fn put_account_money(row: &mut [i64], x: Account)
     requires { length row.old ≡ 29 }
     ensures { row.new ≡ account_money x }
 {
-    let holdings = x.holdings;
-    let funds = x.funds;
-    put_held(&mut row[0..6], holdings);
-    put_funds(&mut row[6..11], funds);
-    put_positions(&mut row[11..29], holdings);
+    put_cells(row, 0, &held_cells(x.holdings));
+    put_cells(row, 6, &funds_cells(x.funds));
+    put_positions(&mut row[11..], x.holdings);
 }
 
 pub fn store_account(counts: &mut [u64], money: &mut [i64], i: usize, x: Account)
     requires { Long counts.old money.old × (i < 64) }
     ensures { (counts.new ≡ with_account_counts counts.old i x) × (money.new ≡ with_account_money money.old i x) }
 {
-    let a = 500 + i * 4;
+    put_cells(counts, 500 + i * 4, &account_counts(x));
     let b = 61 + i * 29;
-    put_account_counts(&mut counts[a..a + 4], x);
     put_account_money(&mut money[b..b + 29], x);
 }

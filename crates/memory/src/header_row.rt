@@ -2,10 +2,11 @@
 ghost use Rattle.std.specs.Prelude.{◌≡◌, length};
 ghost use Rattle.memory.specs.Layout.{counts_long, money_long, header_at, with_header, house_at, with_house};
 
-use crate::cells::put_counts;
+use crate::cells::put_cells;
 
 // The point of the day, the day, the clock and the day's trades; the reference rate and the multiplier; how many exceptions,
-// listed contracts, outcomes of the last close and members there are.
+// listed contracts, outcomes of the last close and members there are. The point stays the number in its cell: header_at and with_header say what
+// every number there is read as and written back to.
 #[derive(Clone, Copy)]
 pub struct Header {
     pub point: u64,
@@ -54,7 +55,7 @@ pub fn store_header(counts: &mut [u64], h: Header)
         h.settled,
         h.members,
     ];
-    put_counts(&mut *counts, 0, &cells);
+    put_cells(counts, 0, &cells);
 }
 
 pub fn load_house(money: &[i64]) -> i64

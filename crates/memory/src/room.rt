@@ -3,40 +3,18 @@ ghost use Rattle.std.specs.Prelude.{◌≡◌, length, replicate, pos, ◌≤◌
 ghost use Rattle.lists.specs.Parts.{with_part};
 ghost use Rattle.memory.specs.Layout.{counts_long};
 
-use crate::cells::put_counts;
-
 // The header's 10, 400 exceptions, 6 contracts of 12, 6 outcomes of 3 and 64 accounts of 4.
 pub const COUNTS: usize = 756;
 
 // The house, 6 contracts of 9, 6 outcomes of 1 and 64 accounts of 29.
 pub const MONEY: usize = 1917;
 
-fn clear_counts(counts: &mut [u64])
-    ensures { counts.new ≡ replicate (length counts.old) 0 }
-{
-    let mut place: usize = 0;
-    while place < counts.len() {
-        counts[place] = 0;
-        place += 1;
-    }
-}
-
-fn clear_money(money: &mut [i64])
-    ensures { money.new ≡ replicate (length money.old) (pos 0) }
-{
-    let mut place: usize = 0;
-    while place < money.len() {
-        money[place] = 0;
-        place += 1;
-    }
-}
-
 // All cells zero.
 pub fn clear(counts: &mut [u64], money: &mut [i64])
     ensures { (counts.new ≡ replicate (length counts.old) 0) × (money.new ≡ replicate (length money.old) (pos 0)) }
 {
-    clear_counts(&mut *counts);
-    clear_money(&mut *money);
+    counts.fill(0);
+    money.fill(0);
 }
 
 // The exceptions in the cells after the header.
@@ -44,5 +22,5 @@ pub fn store_exceptions(counts: &mut [u64], exceptions: &[u64])
     requires { (length counts.old ≡ counts_long) × (length exceptions.now ≤ 400) }
     ensures { counts.new ≡ with_part 10 (length exceptions.now) counts.old exceptions.now }
 {
-    put_counts(&mut *counts, 10, exceptions);
+    counts[10..10 + exceptions.len()].copy_from_slice(exceptions);
 }

@@ -3,24 +3,15 @@ ghost use Rattle.std.specs.Prelude.{◌≡◌, ◌+◌, ◌*◌, ◌<◌, ◌≤
 ghost use Rattle.lists.specs.Seek.{seek};
 ghost use Rattle.memory.specs.Layout.{counts_long, header_at, number_at, code_at, settled_code_at};
 
-use lists::Found;
-
-fn find(counts: &[u64], first: usize, width: usize, rows: usize, key: u64) -> Found
+fn find(counts: &[u64], first: usize, width: usize, rows: usize, key: u64) -> Option<usize>
     requires { (first + rows * width ≤ length counts.now) × (0 < width) }
     ensures { result ≡ seek (λ i. get_or counts.now (first + i * width) 0) key rows 0 }
 {
-    let mut i: usize = 0;
-    while i < rows {
-        if counts[first + i * width] == key {
-            return Found::At(i);
-        }
-        i += 1;
-    }
-    Found::Nothing
+    (0..rows).find(|&i| counts[first + i * width] == key)
 }
 
-// Where the account of a number stands.
-pub fn find_account(counts: &[u64], number: u64) -> Found
+// Where the account of a number stands, if it is enrolled.
+pub fn find_account(counts: &[u64], number: u64) -> Option<usize>
     requires { (length counts.now ≡ counts_long) × ((header_at counts.now).members ≤ 64) }
     ensures { result ≡ seek (number_at counts.now) number (header_at counts.now).members 0 }
 {
@@ -28,8 +19,8 @@ pub fn find_account(counts: &[u64], number: u64) -> Found
     find(counts, 500, 4, members, number)
 }
 
-// Where the listed contract of a code stands.
-pub fn find_contract(counts: &[u64], code: u64) -> Found
+// Where the contract of a code stands, if it is listed.
+pub fn find_contract(counts: &[u64], code: u64) -> Option<usize>
     requires { (length counts.now ≡ counts_long) × ((header_at counts.now).listed ≤ 6) }
     ensures { result ≡ seek (code_at counts.now) code (header_at counts.now).listed 0 }
 {
@@ -37,8 +28,8 @@ pub fn find_contract(counts: &[u64], code: u64) -> Found
     find(counts, 410, 12, listed, code)
 }
 
-// Where the last close's outcome for a code stands.
-pub fn find_outcome(counts: &[u64], code: u64) -> Found
+// Where the last close's outcome for a code stands, if the code was listed then.
+pub fn find_outcome(counts: &[u64], code: u64) -> Option<usize>
     requires { (length counts.now ≡ counts_long) × ((header_at counts.now).settled ≤ 6) }
     ensures { result ≡ seek (settled_code_at counts.now) code (header_at counts.now).settled 0 }
 {

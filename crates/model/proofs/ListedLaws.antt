@@ -1,6 +1,6 @@
 -- Which codes a book lists, by the calendar; that a listed code stays until its last trading day is closed, and is never listed again; and
 -- what an accepted open does.
-use Rattle.std.specs.Prelude.{◌≡◌, Bool, true, false, not, cond, ◌&&◌, List, [], ◌∷◌, ℕ, ◌+◌, ◌-◌, ◌≤◌, ◌<◌, ℤ, pos, length}
+use Rattle.std.specs.Prelude.{◌≡◌, Bool, true, false, not, cond, ◌&&◌, List, [], ◌∷◌, ℕ, ◌+◌, ◌-◌, ◌≤◌, ◌<◌, ℤ, pos, length, Option, Some, None}
 use Rattle.std.proofs.Math.Path.{refl}
 use Rattle.std.proofs.Common.{sym, ◌∙◌, ap, subst, arith, ltb-true, eqb-true, lt-ltb}
 use Rattle.std.proofs.Math.Bool.{and-eq-true_iff}
@@ -8,8 +8,6 @@ use Rattle.std.proofs.lemmas.Bool.{eqb-false, not-true}
 use Rattle.lists.specs.Has.{has, Distinct}
 use Rattle.lists.specs.HasLaws.{by_test, clash, when_true, when_false, cond_same, or-skip, those-has, distinct-those}
 use Rattle.lists.specs.Those.{those, those-fewer}
-use Rattle.days.specs.declared.Day.{Day}
-use Rattle.days.specs.declared.Day.TheVariants.{On, NoDay}
 use Rattle.days.specs.Days.{is_on}
 use Rattle.days.specs.DayLaws.{first-of}
 use Rattle.months.specs.Months.{last_trading_of}
@@ -195,16 +193,16 @@ pub listed-runs : (b : Book) → Listed b → (c : ℕ) → is_listed b c ≡ tr
 listed-runs b i c e = by_test (has_passed b c) (λ d. clash e (passed-unlisted b i c d)) (λ d. d)
 
 -- ---- an open
-pub on-is : (u : ℕ) (a : Day) → is_on u a ≡ true → a ≡ On u
-on-is u (On d) e = ap On (sym (eqb-true u d e))
-on-is u NoDay e = clash e refl
+pub on-is : (u : ℕ) (a : Option ℕ) → is_on u a ≡ true → a ≡ Some u
+on-is u (Some d) e = ap Some (sym (eqb-true u d e))
+on-is u None e = clash e refl
 
 module _ (b : Book) (o : Opening) (p : Passed (tests b (opening o))) where
   shut : is_shut b.today.point ≡ true
   shut = needed 3 tt p.0
 
   -- "later ones: the next working day after the one closed"
-  next-day : b.today.point ≡ ended → expected b ≡ On o.day
+  next-day : b.today.point ≡ ended → expected b ≡ Some o.day
   next-day e =
       let n : is_next b o.day ≡ true = needed 20 tt p.1.1.0 in
       on-is o.day (expected b) (rw e at n)

@@ -1,5 +1,5 @@
 -- The day of an open: what the number that the open is answered tells of it, and the day that is expected.
-use Rattle.std.specs.Prelude.{◌≡◌, Bool, not, cond, ◌&&◌, ◌||◌, List, [], ◌∷◌, ◌⊎◌, ℕ, zero, suc, ◌+◌, ◌-◌, ◌≤◌, ◌<◌, eqb, ltb}
+use Rattle.std.specs.Prelude.{◌≡◌, Bool, not, cond, ◌&&◌, ◌||◌, List, [], ◌∷◌, ◌⊎◌, ℕ, zero, suc, ◌+◌, ◌-◌, ◌≤◌, ◌<◌, eqb, ltb, Result, Ok, Err, Option, Some, None}
 use Rattle.std.proofs.Math.Path.{refl, subst}
 use Rattle.std.proofs.Common.{sym, ap, ap₂, ◌∙◌, inl, inr, arith, le-ltb, eqb-true, ne_eqb}
 use Rattle.std.proofs.Math.Bool.{true, false}
@@ -7,18 +7,16 @@ use Rattle.std.proofs.lemmas.Bool.{eqb-false}
 use Rattle.std.proofs.Math.Dec.{T}
 use Rattle.lists.specs.Has.{has}
 use Rattle.lists.specs.HasLaws.{by_test, clash, or-skip}
-use Rattle.days.specs.declared.Day.{Day}
-use Rattle.days.specs.declared.Day.TheVariants.{On, NoDay}
 use Rattle.days.specs.Days.{days, is_on}
 use Rattle.days.specs.DayLaws.{first-of, first-misses, first-is}
 use Rattle.calendar.specs.Listing.{listing}
 use Rattle.calendar.specs.ListingLaws.{known-settles, unknown-settles}
 use Rattle.calendar.specs.CodeLaws.{settles-later}
 use Rattle.ranges.specs.Ranges as ranges
-use Rattle.ranges.specs.declared.Checked.TheVariants.{Passed, Refused}
 use Rattle.funds.specs.Funds as funds
-use Rattle.funds.specs.declared.Payment.{Payment}
-use Rattle.funds.specs.declared.Payment.TheVariants.{Made, InDefault, TooMuch, Full}
+use Rattle.funds.specs.declared.Funds.{Funds}
+use Rattle.funds.specs.declared.PaymentError.{PaymentError}
+use Rattle.funds.specs.declared.PaymentError.TheVariants.{InDefault, TooMuch, Full}
 use Rattle.records.specs.Records.{Entry}
 use Rattle.model.specs.Book.{Book, Point, unstarted, unopened, unsettled, settled_today, ended, working}
 use Rattle.model.specs.Calls.{Call, start, enrol, pay_in, pay_out, release, set_special, set_limits, opening, trade, quote, settle, refresh, close, unknown, Opening, call_of}
@@ -31,11 +29,11 @@ use Rattle.model.proofs.ListedLaws.{on-is}
 
 -- the first test, by whether a record is in range
 abbrev range_test : Bool → ℕ
-range_test t = ranges.refusal_of (cond t Passed (Refused 2))
+range_test t = ranges.refusal_of (cond t (Ok tt) (Err (record {})))
 
 -- ---- the day expected
 -- it is the only next working day
-pub next-is : (b : Book) (d : ℕ) → NextDay b d → expected b ≡ On d
+pub next-is : (b : Book) (d : ℕ) → NextDay b d → expected b ≡ Some d
 next-is b d n =
     first-is (working b) (days - (b.today.day + 1)) (b.today.day + 1) d
     (omega (arith, n.later)) (omega (arith, n.later, n.inside)) n.works (λ k h l. n.first k (omega arith) l)
@@ -55,7 +53,7 @@ later-ended settled_today s e = clash s refl
 later-ended ended s e = refl
 
 module _ (b : Book) (closed : b.today.point ≡ ended) where
-  found-next : (d : ℕ) → expected b ≡ On d → NextDay b d
+  found-next : (d : ℕ) → expected b ≡ Some d → NextDay b d
   found-next d q =
       let f = first-of (working b) (days - (b.today.day + 1)) (b.today.day + 1) d q in
       let late = f.from in
@@ -69,12 +67,12 @@ module _ (b : Book) (closed : b.today.point ≡ ended) where
       }
 
   -- there is one: the months listed on the day closed settle after it
-  next-found : Listed b → (d : ℕ) × (expected b ≡ On d)
+  next-found : Listed b → (d : ℕ) × (expected b ≡ Some d)
   next-found i = go (expected b) refl
     where
-      go : (a : Day) → expected b ≡ a → (d : ℕ) × (expected b ≡ On d)
-      go (On d) q = (d, q)
-      go NoDay q =
+      go : (a : Option ℕ) → expected b ≡ a → (d : ℕ) × (expected b ≡ Some d)
+      go (Some d) q = (d, q)
+      go None q =
           let l = settles-later (working b) b.today.day (i.known (ap is_dated closed)) in
           let after = l.1.0 in
           let below = l.1.1.0 in
@@ -164,11 +162,11 @@ test-elsewhere : (t : Bool) (n : ℕ) → T (elsewhere n) → T (elsewhere (need
 test-elsewhere true n h = tt
 test-elsewhere false n h = h
 
-payment-elsewhere : (p : Payment) → T (elsewhere (funds.refusal_of p))
-payment-elsewhere (Made f) = tt
-payment-elsewhere InDefault = tt
-payment-elsewhere TooMuch = tt
-payment-elsewhere Full = tt
+payment-elsewhere : (p : Result Funds PaymentError) → T (elsewhere (funds.refusal_of p))
+payment-elsewhere (Ok f) = tt
+payment-elsewhere (Err InDefault) = tt
+payment-elsewhere (Err TooMuch) = tt
+payment-elsewhere (Err Full) = tt
 
 range-elsewhere : (t : Bool) → T (elsewhere (range_test t))
 range-elsewhere true = tt
@@ -221,9 +219,9 @@ plainly b c other n e = rw (ne_eqb n 20 (not-twenty (tests-elsewhere b c)))
     not-twenty (inl o) q = other o.0 o.1
     not-twenty (inr f) q = subst (λ k. T (elsewhere k)) (e ∙ q) (first-elsewhere (tests b c) f)
 
-expecting-number : (a : Day) → (refusal_of (expecting a)).number ≡ 20
-expecting-number (On d) = refl
-expecting-number NoDay = refl
+expecting-number : (a : Option ℕ) → (refusal_of (expecting a)).number ≡ 20
+expecting-number (Some d) = refl
+expecting-number None = refl
 
 pub refusing-number : (b : Book) (n : ℕ) → (refusal_of (refusing b n)).number ≡ n
 refusing-number b n = by_test (eqb n 20) (λ e. rw e (expecting-number (expected b) ∙ sym (eqb-true n 20 e))) (λ e. rw e)

@@ -1,7 +1,5 @@
 -- What a call answers, and the book after it.
-use Rattle.std.specs.Prelude.{cond, List, [], ◌∷◌, ℕ, zero, suc, eqb, ℤ}
-use Rattle.days.specs.declared.Day.{Day}
-use Rattle.days.specs.declared.Day.TheVariants.{On, NoDay}
+use Rattle.std.specs.Prelude.{cond, List, [], ◌∷◌, ℕ, zero, suc, eqb, ℤ, Option, Some, None}
 use Rattle.records.specs.Records.{Entry}
 use Rattle.rates.specs.declared.Settled.{Settled}
 use Rattle.holdings.specs.declared.Totals.{Totals}
@@ -81,9 +79,9 @@ accepts b (close final) = report (report_of (after b (close final)))
 accepts b unknown = done
 
 -- ---- what a refused call answers: its number. Request L2: "20 returns the expected day"
-abbrev pub expecting : Day → Answer
-expecting (On d) = not_next d
-expecting NoDay = refused 20
+abbrev pub expecting : Option ℕ → Answer
+expecting (Some d) = not_next d
+expecting None = refused 20
 
 abbrev pub refusing : Book → ℕ → Answer
 refusing b n = cond (eqb n 20) (expecting (expected b)) (refused n)

@@ -1,6 +1,5 @@
 -- Document 01's printed day and its twelve marked examples, as statements. The crate `examples` computes them.
-use Rattle.std.specs.Prelude.{◌≡◌, true, false, List, [], ◌∷◌, ◌++◌, map, ℕ, ℤ, pos, neg_ℤ}
-use Rattle.days.specs.declared.Day.TheVariants.{On}
+use Rattle.std.specs.Prelude.{◌≡◌, true, false, List, [], ◌∷◌, ◌++◌, map, ℕ, ℤ, pos, neg_ℤ, Some}
 use Rattle.months.specs.Months.{settlement_of, last_trading_of}
 use Rattle.calendar.specs.Listing.{listing}
 use Rattle.calendar.specs.Examples.{plain}
@@ -125,12 +124,12 @@ pub record Marked : Type 0 where
   -- 2. "80 00 is refused; 00 is zero."
   pub shortest :
       (decode (0x80 ∷ 0x00 ∷ []) ≡ none)
-      × (outcome_of (reading_at (0x80 ∷ 0x00 ∷ []) 0).answer ≡ refused_at 1 0)
+      × (outcome_of (reading_at (0x80 ∷ 0x00 ∷ []) 0) ≡ refused_at 1 0)
       × (decode (0x00 ∷ []) ≡ got 0 [])
   -- 3. "2309 settles on day 1358."
-  pub settles_on : settlement_of plain 2309 ≡ On 1358
+  pub settles_on : settlement_of plain 2309 ≡ Some 1358
   -- 4. "Its last trading day is 1357."
-  pub last-trades-on : last_trading_of plain 2309 ≡ On 1357
+  pub last-trades-on : last_trading_of plain 2309 ≡ Some 1357
   -- 5. "Without exceptions, day 1386 lists 2311, 2312, 2401, 2403, 2406, 2409."
   pub lists : listing plain 1386 ≡ record { known = true; codes = 2311 ∷ 2312 ∷ 2401 ∷ 2403 ∷ 2406 ∷ 2409 ∷ [] }
   -- 6. "Lots 2 at 1, 1 at 1, three of 1 at 0: mean 0.5, rate 1."

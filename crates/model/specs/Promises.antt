@@ -1,13 +1,12 @@
 -- What the book promises after any list of calls, refused ones included: demand 3, and what demand 2 says of trades, opens and closes.
 -- Here the statements only; PromiseLaws has the theorem.
-use Rattle.std.specs.Prelude.{◌≡◌, true, false, cond, List, [], ◌∷◌, ◌++◌, map, ◌⊎◌, ℕ, suc, ◌≤◌, ◌<◌, ℤ, pos, ◌+ℤ◌, ◌-ℤ◌, ◌*ℤ◌, get_or, ◌≤ℤ◌}
+use Rattle.std.specs.Prelude.{◌≡◌, true, false, cond, List, [], ◌∷◌, ◌++◌, map, ◌⊎◌, ℕ, suc, ◌≤◌, ◌<◌, ℤ, pos, ◌+ℤ◌, ◌-ℤ◌, ◌*ℤ◌, get_or, ◌≤ℤ◌, None}
 use Rattle.lists.specs.Has.{has, place_of}
 use Rattle.lists.specs.Tabulate.{tab}
 use Rattle.lists.specs.All.{All}
 use Rattle.whole.specs.Sums.{sum_z}
 use Rattle.whole.specs.Over.{sum_over}
 use Rattle.whole.specs.Larger.{larger}
-use Rattle.days.specs.declared.Day.TheVariants.{NoDay}
 use Rattle.months.specs.Months.{months, settlement_day}
 use Rattle.calendar.specs.Listing.{is_listed as listed_on, settles}
 use Rattle.records.specs.Records.{Entry}
@@ -69,7 +68,7 @@ InTurn b day = (b.today.point ≡ unopened) ⊎ NextDay b day
 pub record DayTold (b : Book) (day n : ℕ) : Type 0 where
   pub off : n ≡ 19 → working b day ≡ false
   pub not-next : n ≡ 20 → (working b day ≡ true) × ((d : ℕ) × (NextDay b d × (day ≡ d → ⊥)))
-  pub unsettled : n ≡ 21 → (working b day ≡ true) × (InTurn b day × ((m : ℕ) × ((listed_on (working b) day m ≡ true) × (settlement_day (working b) m ≡ NoDay))))
+  pub unsettled : n ≡ 21 → (working b day ≡ true) × (InTurn b day × ((m : ℕ) × ((listed_on (working b) day m ≡ true) × (settlement_day (working b) m ≡ None))))
   pub none : n ≡ 0 → (working b day ≡ true) × (InTurn b day × ((m : ℕ) → m < months → listed_on (working b) day m ≡ true → settles (working b) m ≡ true))
   pub only : has n (0 ∷ 2 ∷ 3 ∷ 19 ∷ 20 ∷ 21 ∷ []) ≡ true
 

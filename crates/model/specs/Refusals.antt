@@ -1,6 +1,5 @@
 -- What a call is refused for: document 01, 'Refusal numbers', "First that applies".
-use Rattle.std.specs.Prelude.{Bool, false, not, cond, ◌&&◌, ◌||◌, List, [], ◌∷◌, ℕ, zero, suc, ◌+◌, eqb, leb, ltb, length}
-use Rattle.days.specs.declared.Day.{Day}
+use Rattle.std.specs.Prelude.{Bool, false, not, cond, ◌&&◌, ◌||◌, List, [], ◌∷◌, ℕ, zero, suc, ◌+◌, eqb, leb, ltb, length, Option}
 use Rattle.days.specs.Days.{accepted, next_working, is_on, is_working}
 use Rattle.calendar.specs.Listing.{listing}
 use Rattle.ranges.specs.Ranges as ranges
@@ -69,7 +68,7 @@ allowed p unknown = false
 abbrev pub is_first : Point → Bool
 is_first p = eqb (stage p) 1
 
-abbrev pub expected : Book → Day
+abbrev pub expected : Book → Option ℕ
 expected b = next_working (working b) (b.today.day + 1)
 
 abbrev pub is_next : Book → ℕ → Bool

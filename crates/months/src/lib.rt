@@ -5,19 +5,12 @@ ghost use Rattle.std.specs.Prelude.{◌≡◌, true, ◌+◌, ◌-◌, ◌≤◌
 ghost use Rattle.days.specs.Days.{rising, is_working};
 ghost use Rattle.months.specs.Months.{month_of, code_of, is_quarterly, first_day, third_wednesday, settlement_day, last_trading_day};
 
-use days::{Day, next_working, working_before};
+use days::{next_working, working_before};
 
 // A month, counted from January 2000 on.
 #[derive(Clone, Copy)]
 pub struct Month {
     pub number: u32,
-}
-
-// What a code stands for.
-#[derive(Clone, Copy)]
-pub enum Coded {
-    Is(Month),
-    NoMonth,
 }
 
 impl Month {
@@ -38,22 +31,22 @@ impl Month {
         3378, 3408, 3439, 3469, 3500, 3531, 3561, 3592, 3622,
     ];
 
-    // The month of a code YYMM.
-    pub fn from_code(code: u64) -> Coded
+    // The month of a code YYMM, if it is one.
+    pub fn from_code(code: u64) -> Option<Month>
         ensures { result ≡ month_of code }
     {
         if 9999 < code {
-            return Coded::NoMonth;
+            return None;
         }
         let of_year = code % 100;
         if of_year < 1 {
-            return Coded::NoMonth;
+            return None;
         }
         if 12 < of_year {
-            return Coded::NoMonth;
+            return None;
         }
         let number = (code / 100 * 12 + (of_year - 1)) as u32;
-        Coded::Is(Month { number })
+        Some(Month { number })
     }
 
     // The code YYMM of a month.
@@ -75,8 +68,7 @@ impl Month {
         requires { (240 ≤ self.number) × (self.number < 360) }
         ensures { result ≡ first_day (self.number - 240) }
     {
-        let i = (self.number - Self::FIRST) as usize;
-        Self::FIRST_DAYS[i]
+        Self::FIRST_DAYS[(self.number - Self::FIRST) as usize]
     }
 
     fn third_wednesday(self) -> u64
@@ -86,29 +78,25 @@ impl Month {
         (self.first_day() + 6) / 7 * 7 + 14
     }
 
-    // The third Wednesday, or the next working day if that is off.
-    pub fn settlement_day(self, exceptions: &[u64]) -> Day
+    // The third Wednesday, or the next working day if that is off; none if the calendar does not have it.
+    pub fn settlement_day(self, exceptions: &[u64]) -> Option<u64>
         requires { rising exceptions.now ≡ true }
         ensures { result ≡ settlement_day (is_working exceptions.now) self.number }
     {
-        let number = self.number;
-        if number < Self::FIRST {
-            return Day::NoDay;
+        if self.number < Self::FIRST {
+            return None;
         }
-        if Self::LAST < number {
-            return Day::NoDay;
+        if Self::LAST < self.number {
+            return None;
         }
         next_working(exceptions, self.third_wednesday())
     }
 
-    // The working day before the settlement day.
-    pub fn last_trading_day(self, exceptions: &[u64]) -> Day
+    // The working day before the settlement day, if the calendar has both.
+    pub fn last_trading_day(self, exceptions: &[u64]) -> Option<u64>
         requires { rising exceptions.now ≡ true }
         ensures { result ≡ last_trading_day (is_working exceptions.now) self.number }
     {
-        match self.settlement_day(exceptions) {
-            Day::On(d) => working_before(exceptions, d),
-            Day::NoDay => Day::NoDay,
-        }
+        working_before(exceptions, self.settlement_day(exceptions)?)
     }
 }

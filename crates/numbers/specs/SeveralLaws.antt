@@ -4,7 +4,7 @@ use Rattle.std.proofs.Common.{sym, ap, ◌∙◌, subst₂, append_assoc, arith}
 use Rattle.numbers.specs.Below.{Fit, Small, below-append, below-cons, below_right}
 use Rattle.numbers.specs.Seven.{Got, none, got, encode, decode}
 use Rattle.numbers.specs.SevenLaws.{decode-encode, decode-only, decode-fits, groups-small}
-use Rattle.numbers.specs.Several.{write_of, Some, nothing, some, on_got, on_some, many}
+use Rattle.numbers.specs.Several.{write_of, Numbers, nothing, some, on_got, on_some, many}
 
 pub write-append : (a b : List ℕ) → write_of (a ++ b) ≡ write_of a ++ write_of b
 unfolding write_of
@@ -27,7 +27,7 @@ pub got-apart : {A : Type 0} (g : Got) (z w : A) (f : ℕ → List ℕ → A) �
 got-apart none z w f other e = absurd (other e)
 got-apart (got n t) z w f other e = (n, t, refl, e)
 
-pub some-apart : {A : Type 0} (g : Some) (z w : A) (f : List ℕ → List ℕ → A) → (z ≡ w → ⊥) → on_some g z f ≡ w → (l : List ℕ) × (t : List ℕ) × (g ≡ some l t) × (f l t ≡ w)
+pub some-apart : {A : Type 0} (g : Numbers) (z w : A) (f : List ℕ → List ℕ → A) → (z ≡ w → ⊥) → on_some g z f ≡ w → (l : List ℕ) × (t : List ℕ) × (g ≡ some l t) × (f l t ≡ w)
 some-apart nothing z w f other e = absurd (other e)
 some-apart (some l t) z w f other e = (l, t, refl, e)
 

@@ -1,12 +1,9 @@
 -- An open told of a memory: what it may rely on, what each of its tests decides, and what it leaves.
-use Rattle.std.specs.Prelude.{◌≡◌, Bool, true, false, cond, ◌||◌, List, [], ◌∷◌, ℕ, ◌+◌, ◌≤◌, eqb, ℤ}
+use Rattle.std.specs.Prelude.{◌≡◌, Bool, true, false, cond, ◌||◌, List, [], ◌∷◌, ℕ, ◌+◌, ◌≤◌, eqb, ℤ, Err, Option, Some, None}
 use Rattle.std.proofs.Math.Path.{refl}
 use Rattle.std.proofs.Common.{sym, ap, ap₂, ◌∙◌, subst}
-use Rattle.days.specs.declared.Day.{Day}
-use Rattle.days.specs.declared.Day.TheVariants.{On, NoDay}
 use Rattle.days.specs.Days.{is_working, next_working, is_on}
-use Rattle.calendar.specs.declared.listing.Listing.{Listing}
-use Rattle.calendar.specs.Listing.{listing}
+use Rattle.calendar.specs.Listing.{Listing, listing}
 use Rattle.memory.specs.declared.header_row.Header.{Header}
 use Rattle.memory.specs.Layout.{header_at, with_header}
 use Rattle.memory.specs.Memory.{Rows, Holds, with_header_row}
@@ -42,15 +39,15 @@ module _ (counts : List ℕ) where
   abbrev pub works_at : ℕ → Bool
   works_at = is_working (exceptions_of counts)
 
-  abbrev pub expected_at : Day
+  abbrev pub expected_at : Option ℕ
   expected_at = next_working works_at ((header_at counts).day + 1)
 
   abbrev pub next_at : ℕ → Bool
   next_at day = eqb (header_at counts).point 1 || is_on day expected_at
 
-not-next-answers : (a : Day) → answer_of (not_next_as a) ≡ expecting a
-not-next-answers (On d) = refl
-not-next-answers NoDay = refl
+not-next-answers : (a : Option ℕ) → answer_of (Err (not_next_as a)) ≡ expecting a
+not-next-answers (Some d) = refl
+not-next-answers None = refl
 
 module _ {counts : List ℕ} {money : List ℤ} (s : Sound counts money) where
   abbrev book : Book
@@ -90,7 +87,7 @@ module _ {counts : List ℕ} {money : List ℤ} (s : Sound counts money) where
       answered-off e = by_number 19 (decides ∙ rw (shut, e)) refl (sound-holds s)
 
       module _ (works : works_at counts o.day ≡ true) where
-        pub answered-not-next : next_at counts o.day ≡ false → Answered counts money (opening o) (answer_of (not_next_as (expected_at counts))) counts money
+        pub answered-not-next : next_at counts o.day ≡ false → Answered counts money (opening o) (answer_of (Err (not_next_as (expected_at counts)))) counts money
         answered-not-next e =
             by_number 20 (decides ∙ rw (shut, works, e)) (not-next-answers (expected_at counts) ∙ ap expecting expected-is) (sound-holds s)
 

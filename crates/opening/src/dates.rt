@@ -3,13 +3,12 @@ ghost use Rattle.std.specs.Prelude.{◌≡◌, ◌||◌, eqb};
 ghost use Rattle.days.specs.Days.{is_on};
 ghost use Rattle.opening.specs.Opens.{not_next_as};
 
-use days::Day;
+use refusals::Refusal;
 
-// What an open answers: that it is done, the number of its refusal, or that the day is not the next working day, with the day that is.
-#[derive(Clone, Copy)]
-pub enum Opened {
-    Done,
-    Refused(u64),
+// Why a day is not opened. One that is not the next working day, which is the refusal NotNextDay, is told with the day that is.
+#[derive(Clone, Copy, PartialEq, Eq, Debug)]
+pub enum OpenError {
+    Refused(Refusal),
     NotNext(u64),
 }
 
@@ -17,31 +16,22 @@ pub enum Opened {
 pub(crate) fn is_shut(point: u64) -> bool
     ensures { result ≡ (eqb point 1 || eqb point 4) }
 {
-    if point == 1 {
-        return true;
-    }
-    point == 4
+    point == 1 || point == 4
 }
 
 // Whether a day is the book's first or the one expected after the one closed.
-pub(crate) fn is_next(point: u64, expected: Day, day: u64) -> bool
+pub(crate) fn is_next(point: u64, expected: Option<u64>, day: u64) -> bool
     ensures { result ≡ (eqb point 1 || is_on day expected) }
 {
-    if point == 1 {
-        return true;
-    }
-    match expected {
-        Day::On(d) => day == d,
-        Day::NoDay => false,
-    }
+    point == 1 || expected == Some(day)
 }
 
-// Refusal 20 with the day expected. A closed day always has a working day after it, so the number never stands alone.
-pub(crate) fn not_next(expected: Day) -> Opened
+// The refusal with the day expected. A closed day always has a working day after it, so the refusal never stands alone.
+pub(crate) fn not_next(expected: Option<u64>) -> OpenError
     ensures { result ≡ not_next_as expected }
 {
     match expected {
-        Day::On(d) => Opened::NotNext(d),
-        Day::NoDay => Opened::Refused(20),
+        Some(d) => OpenError::NotNext(d),
+        None => OpenError::Refused(Refusal::NotNextDay),
     }
 }

@@ -14,9 +14,10 @@ mod members;
 use crate::dates::{is_next, is_shut, not_next};
 use crate::listed::relist;
 use calendar::listed_on;
-pub use dates::Opened;
+pub use dates::OpenError;
 use days::{is_working, next_working};
 use memory::{Header, load_header, store_header};
+use refusals::Refusal;
 
 // The header of a day that has just opened.
 fn open_header(h: Header, day: u64) -> Header
@@ -27,12 +28,8 @@ fn open_header(h: Header, day: u64) -> Header
         day,
         clock: 0,
         trades: 0,
-        reference: h.reference,
-        multiplier: h.multiplier,
-        exceptions: h.exceptions,
         listed: 6,
-        settled: h.settled,
-        members: h.members,
+        ..h
     }
 }
 
@@ -43,30 +40,27 @@ pub fn open_day(
     day: u64,
     rates: [i64; 6],
     margins: [u64; 6],
-) -> Opened
+) -> Result<(), OpenError>
     requires { Sound counts.old money.old }
     ensures { Answered counts.old money.old (opening_call (record { day = day; rates = rates; margins = margins })) (answer_of result) counts.new money.new }
 {
-    let h = load_header(&counts[..]);
+    let h = load_header(counts);
     if !is_shut(h.point) {
-        return Opened::Refused(3);
+        return Err(OpenError::Refused(Refusal::NotNow));
     }
     let n = h.exceptions as usize;
     let exceptions = &counts[10..10 + n];
     if !is_working(exceptions, day) {
-        return Opened::Refused(19);
+        return Err(OpenError::Refused(Refusal::DayOff));
     }
     let expected = next_working(exceptions, h.day + 1);
     if !is_next(h.point, expected, day) {
-        return not_next(expected);
+        return Err(not_next(expected));
     }
-    let listing = listed_on(exceptions, day);
-    if !listing.known {
-        return Opened::Refused(21);
-    }
-    let codes = listing.codes;
-    relist(&mut *counts, &mut *money, codes, rates, margins);
-    let g = open_header(h, day);
-    store_header(&mut *counts, g);
-    Opened::Done
+    let Some(codes) = listed_on(exceptions, day) else {
+        return Err(OpenError::Refused(Refusal::NoSettlementDay));
+    };
+    relist(counts, money, codes, rates, margins);
+    store_header(counts, open_header(h, day));
+    Ok(())
 }

@@ -8,8 +8,8 @@ ghost use Rattle.standing.specs.Turns.{Turns};
 ghost use Rattle.opening.specs.Putting.{SixRows};
 
 use crate::members::relist_members;
-use lists::Found;
 use memory::{Contract, find_contract, load_contract, load_header, store_contract};
+use std::array;
 use tallies::empty_tally;
 
 // The row of a code among those listed so far, 6 where it has none.
@@ -17,24 +17,14 @@ fn place_of(counts: &[u64], code: u64) -> usize
     requires { (length counts.now ≡ counts_long) × ((header_at counts.now).listed ≤ 6) }
     ensures { result ≡ place_found (seek (code_at counts.now) code (header_at counts.now).listed 0) }
 {
-    match find_contract(counts, code) {
-        Found::At(k) => k,
-        Found::Nothing => 6,
-    }
+    find_contract(counts, code).unwrap_or(6)
 }
 
 fn places_of(counts: &[u64], codes: [u64; 6]) -> [usize; 6]
     requires { (length counts.now ≡ counts_long) × ((header_at counts.now).listed ≤ 6) }
     ensures { result ≡ places_by (λ c. seek (code_at counts.now) c (header_at counts.now).listed 0) codes }
 {
-    let mut places: [usize; 6] = [0; 6];
-    let mut j: usize = 0;
-    while j < 6 {
-        let place = place_of(counts, codes[j]);
-        places[j] = place;
-        j += 1;
-    }
-    places
+    codes.map(|code| place_of(counts, code))
 }
 
 // The row of a code: with the terms of the row that it had, or with the list rate and the margin rate of the record.
@@ -52,12 +42,7 @@ fn row_for(
     let tally = empty_tally();
     if place < 6 {
         let x = load_contract(counts, money, place);
-        return Contract {
-            code,
-            margin: x.margin,
-            previous: x.previous,
-            tally,
-        };
+        return Contract { code, tally, ..x };
     }
     Contract {
         code,
@@ -78,32 +63,15 @@ fn rows_for(
     requires { Long counts.now money.now }
     ensures { result ≡ rows_by (contract_at counts.now money.now) places codes rates margins }
 {
-    let tally = empty_tally();
-    let none = Contract {
-        code: 0,
-        margin: 0,
-        previous: 0,
-        tally,
-    };
-    let mut rows = [none; 6];
-    let mut j: usize = 0;
-    while j < 6 {
-        let row = row_for(counts, money, places[j], codes[j], rates[j], margins[j]);
-        rows[j] = row;
-        j += 1;
-    }
-    rows
+    array::from_fn(|j| row_for(counts, money, places[j], codes[j], rates[j], margins[j]))
 }
 
 fn store_rows(counts: &mut [u64], money: &mut [i64], rows: [Contract; 6])
     requires { Long counts.old money.old × SixRows rows }
     ensures { Turns counts.old money.old counts.new money.new (λ r. with_contracts r rows) }
 {
-    let mut j: usize = 0;
-    while j < 6 {
-        let row = rows[j];
-        store_contract(&mut *counts, &mut *money, j, row);
-        j += 1;
+    for (j, row) in rows.iter().enumerate() {
+        store_contract(counts, money, j, *row);
     }
 }
 
@@ -118,10 +86,9 @@ pub(crate) fn relist(
     requires { Long counts.old money.old × (((header_at counts.old).listed ≤ 6) × ((header_at counts.old).members ≤ 64)) }
     ensures { Turns counts.old money.old counts.new money.new (relisted_rows codes rates margins) }
 {
-    let h = load_header(&counts[..]);
-    let members = h.members as usize;
-    let places = places_of(&counts[..], codes);
-    let rows = rows_for(&counts[..], &money[..], places, codes, rates, margins);
-    store_rows(&mut *counts, &mut *money, rows);
-    relist_members(&mut *counts, &mut *money, members, places);
+    let h = load_header(counts);
+    let places = places_of(counts, codes);
+    let rows = rows_for(counts, money, places, codes, rates, margins);
+    store_rows(counts, money, rows);
+    relist_members(counts, money, h.members as usize, places);
 }

@@ -8,48 +8,37 @@ ghost use Rattle.standing.specs.Turns.{Turns};
 
 use accounts::Account;
 use memory::{load_account, store_account};
-use positions::{Position, no_positions};
+use positions::Position;
 
 // The position of a row, none where there is no such row.
 fn position_at(positions: [Position; 6], row: usize) -> Position
     requires { length positions ≡ 6 }
     ensures { result ≡ get_or positions row flat }
 {
-    if row < 6 {
-        return positions[row];
-    }
-    Position {
+    let none = Position {
         before: 0,
         net: 0,
         cost: 0,
-    }
+    };
+    positions.get(row).copied().unwrap_or(none)
 }
 
 fn relisted_positions(positions: [Position; 6], places: [usize; 6]) -> [Position; 6]
     requires { length positions ≡ 6 }
     ensures { result ≡ relisted_positions places positions }
 {
-    let mut after = no_positions();
-    let mut j: usize = 0;
-    while j < 6 {
-        let p = position_at(positions, places[j]);
-        after[j] = p;
-        j += 1;
-    }
-    after
+    places.map(|row| position_at(positions, row))
 }
 
 fn relisted(a: Account, places: [usize; 6]) -> Account
     requires { length a.holdings.positions ≡ 6 }
     ensures { result ≡ relisted places a }
 {
-    let mut held = a.holdings;
-    let old = held.positions;
-    let after = relisted_positions(old, places);
-    held.positions = after;
-    let mut b = a;
-    b.holdings = held;
-    b
+    let mut holdings = a.holdings;
+    let former = holdings.positions;
+    let after = relisted_positions(former, places);
+    holdings.positions = after;
+    Account { holdings, ..a }
 }
 
 pub(crate) fn relist_members(
@@ -61,11 +50,8 @@ pub(crate) fn relist_members(
     requires { Long counts.old money.old × (members ≤ 64) }
     ensures { Turns counts.old money.old counts.new money.new (λ r. walked r (relisted places) members) }
 {
-    let mut i: usize = 0;
-    while i < members {
-        let a = load_account(&counts[..], &money[..], i);
-        let b = relisted(a, places);
-        store_account(&mut *counts, &mut *money, i, b);
-        i += 1;
+    for i in 0..members {
+        let a = load_account(counts, money, i);
+        store_account(counts, money, i, relisted(a, places));
     }
 }

@@ -1,12 +1,13 @@
 -- The line of a record that was read: it is put in its shape, how long it is, and where it brings the reader.
-use Rattle.std.specs.Prelude.{◌≡◌, refl, true, List, [], ◌∷◌, ℕ, ◌+◌, ◌-◌, ◌≤◌, ◌<◌, length, take, drop, replicate}
+use Rattle.std.specs.Prelude.{◌≡◌, refl, true, List, [], ◌∷◌, ℕ, ◌+◌, ◌-◌, ◌≤◌, ◌<◌, length, take, drop, replicate, Some, None, Result, Ok, Err}
+use Rattle.std.specs.Result.{result_ok}
 use Rattle.std.proofs.Common.{sym, ap, ◌∙◌, subst, arith, length-append, take_at, take_all, le-ltb}
 use Rattle.numbers.specs.Below.{Small}
 use Rattle.decoding.specs.Place.{stored_from}
 use Rattle.decoding.specs.PlaceLaws.{end-here}
 use Rattle.fields.specs.Fields.{count, announced, shaped}
-use Rattle.records.specs.declared.Answer.TheVariants as records
-use Rattle.records.specs.declared.Reading.{Reading}
+use Rattle.records.specs.declared.Malformed.{Malformed}
+use Rattle.records.specs.declared.Record.{Record}
 use Rattle.records.specs.Records.{Entry, entry, Parsed, unread, parsed, reading}
 use Rattle.records.specs.RecordLaws.{Whole, reading-writing}
 use Rattle.records.specs.Reading.{padded, placed, reading_at}
@@ -15,7 +16,6 @@ use Rattle.records.specs.WritingLaws.{row-shaped}
 use Rattle.decimal.specs.Put.{Put}
 use Rattle.wording.specs.Text.{record_text}
 use Rattle.wording.specs.TextLaws.{record-length}
-use Rattle.packing.specs.declared.unpacked.Unpacking.TheVariants.{Next, Bad}
 use Rattle.packing.specs.Lines.{line_of, LineBy, LineOf}
 
 -- ---- a record that a reader takes
@@ -38,11 +38,12 @@ module _ (e : Entry) (w : Whole e) where
       omega (arith, most, length-append text (10 ∷ []), ap length same_line)
 
 -- ---- the record at a place
-pub read-stands : {s : List ℕ} {at next : ℕ} → Small s → (r : Reading) → r ≡ reading_at s at → r.answer ≡ records.Next next
-    → Stands s at next r.kind r.fields r.more
-read-stands {s} {at} {next} small r e q =
-    reads_on s at small next r.kind r.fields r.more
-    (sym e ∙ ap (λ a. record { answer = a; kind = r.kind; fields = r.fields; more = r.more }) q)
+found-ok : (found : Result Record Malformed) (r : Record) → Some r ≡ result_ok found → found ≡ Ok r
+found-ok (Ok x) r e = cc
+found-ok (Err bad) r e = cc
+
+pub read-stands : {s : List ℕ} {at : ℕ} → Small s → (r : Record) → Some r ≡ result_ok (reading_at s at) → Stands s at r.next r.kind r.fields r.more
+read-stands {s} {at} small r e = reads_on s at small r.next r.kind r.fields r.more (found-ok (reading_at s at) r e)
 
 module _ {s : List ℕ} {at next kind place : ℕ} {fields : List ℕ} (t : Stands s at next kind fields place) where
   abbrev its : Entry
@@ -66,7 +67,7 @@ module _ {s : List ℕ} {at next kind place : ℕ} {fields : List ℕ} (t : Stan
 
   -- its exceptions were stored in room for as many
   pub line-next : {room room' : List ℕ} {used after : ℕ} (list : List ℕ) → length list ≡ announced kind fields
-      → Put room used (line_of (entry kind fields (stored_from s place list).room)) after room' → LineOf s at room used (Next next after) room'
+      → Put room used (line_of (entry kind fields (stored_from s place list).room)) after room' → LineOf s at room used (Some (next, after)) room'
   line-next {room} {room'} {used} {after} list e put =
       let before = t.lies.before in
       let inside = t.lies.inside in
@@ -75,15 +76,14 @@ module _ {s : List ℕ} {at next kind place : ℕ} {fields : List ℕ} (t : Stan
       let line : line_of (entry kind fields (stored_from s place list).room) ≡ line_of its =
       ap (λ x. line_of (entry kind fields x)) stored ∙ ap (λ f. line_of (entry kind f t.exceptions)) t.row ∙ same_line its t.lies.whole in
       record {
-        outcome = subst (λ p. LineBy p s room used (Next next after) room') (sym reads-there)
-            (after, (ap (λ n. Next n after) (sym (end-here s next inside)), subst (λ l. Put room used l after room') line put));
+        outcome = subst (λ p. LineBy p s room used (Some (next, after)) room') (sym reads-there)
+            (after, (ap (λ n. Some (n, after)) (sym (end-here s next inside)), subst (λ l. Put room used l after room') line put));
       }
 
-pub line-none : (s : List ℕ) (at first : ℕ) (room : List ℕ) (used : ℕ) → (reading_at s at).answer ≡ records.Malformed first
-    → LineOf s at room used Bad room
-line-none s at first room used e = record { outcome = go (reading (drop at s)) e }
+pub line-none : (s : List ℕ) (at : ℕ) (room : List ℕ) (used : ℕ) → None ≡ result_ok (reading_at s at) → LineOf s at room used None room
+line-none s at room used e = record { outcome = go (reading (drop at s)) e }
   where
-    go : (g : Parsed) → (placed s at g).answer ≡ records.Malformed first → LineBy g s room used Bad room
+    go : (g : Parsed) → None ≡ result_ok (placed s at g) → LineBy g s room used None room
     go unread q = (refl, refl)
     go (parsed e rest) q = let z : ◌≡◌ {A = ℕ} 0 1 = cc in absurd (omega arith)
 
@@ -93,16 +93,17 @@ pub record Further (end at used next after : ℕ) : Type 0 where
   pub inside : next ≤ end
   pub text : after ≤ used + 8915
 
-pub line-further : {s room room' : List ℕ} {at used next after : ℕ} → Small s → LineOf s at room used (Next next after) room'
+pub line-further : {s room room' : List ℕ} {at used next after : ℕ} → Small s → LineOf s at room used (Some (next, after)) room'
     → Further (length s) at used next after
 line-further {s} {room} {room'} {at} {used} {next} {after} small h = go (reading (drop at s)) refl h.outcome
   where
-    go : (g : Parsed) → reading (drop at s) ≡ g → LineBy g s room used (Next next after) room' → Further (length s) at used next after
+    go : (g : Parsed) → reading (drop at s) ≡ g → LineBy g s room used (Some (next, after)) room' → Further (length s) at used next after
     go unread i (q, same) = let z : ◌≡◌ {A = ℕ} 0 1 = cc in absurd (omega arith)
     go (parsed e rest) i (a, (q, put)) =
         let l = lies s at small e.kind e.fields e.exceptions rest i in
-        let n : length s - length rest ≡ next = cc in
-        let m : a ≡ after = cc in
+        let both : ◌≡◌ {A = ℕ × ℕ} (length s - length rest, a) (next, after) = cc in
+        let n : length s - length rest ≡ next = ap (λ k. k.0) both in
+        let m : a ≡ after = ap (λ k. k.1) both in
         let long = line-length e l.whole in
         record {
           on = omega (arith, l.on, l.before, n);

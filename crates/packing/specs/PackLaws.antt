@@ -1,36 +1,16 @@
 -- What a line says is what is put: the record's bytes have room, so that the writer refuses none.
-use Rattle.std.specs.Prelude.{◌≡◌, refl, true, false, List, [], ◌++◌, ℕ, ◌+◌, ◌-◌, ◌≤◌, length, take, drop}
+use Rattle.std.specs.Prelude.{◌≡◌, refl, true, List, [], ◌++◌, ℕ, ◌+◌, ◌-◌, ◌≤◌, length, take, drop, Result, Ok, Err}
 use Rattle.std.proofs.Common.{sym, ap, ◌∙◌, append-nil, arith, length-take, length-drop, drop_of_length-le, length-take-le}
-use Rattle.std.proofs.lemmas.Bool.{false≢true}
 use Rattle.lists.specs.Parts.{part, with_part, part-rest}
 use Rattle.fields.specs.Fields.{count, announced, shaped}
 use Rattle.fields.specs.FieldLaws.{counts-most, shape-tells}
-use Rattle.records.specs.declared.Written.{Written}
-use Rattle.records.specs.declared.Written.TheVariants.{Done, Malformed, NoRoom}
+use Rattle.records.specs.declared.Unwritten.{Unwritten}
 use Rattle.records.specs.Records.{writing}
 use Rattle.records.specs.Writing.{entry_of, out, written_in}
 use Rattle.records.specs.WritingLaws.{size-record, size-short, done}
 use Rattle.decimal.specs.Put.{Put}
-use Rattle.parsing.specs.declared.line.Line.{Line}
-use Rattle.parsing.specs.declared.line.Line.TheVariants.{Record, NoKind, NoField, NoException, TooLong}
-use Rattle.parsing.specs.Parsing.{NoRecord, OfRecord, Says}
-use Rattle.packing.specs.Packs.{is_record, RecordPut}
-
--- ---- what a line says
-module _ (line : List ℕ) where
-  pub said-record : (a : Line) (kind : ℕ) (fields list : List ℕ) → is_record a ≡ true → Says line a kind fields list → OfRecord line kind fields list
-  said-record Record kind fields list e s = s
-  said-record NoKind kind fields list e s = absurd (false≢true e)
-  said-record (NoField field) kind fields list e s = absurd (false≢true e)
-  said-record (NoException read) kind fields list e s = absurd (false≢true e)
-  said-record TooLong kind fields list e s = absurd (false≢true e)
-
-  pub said-none : (a : Line) (kind : ℕ) (fields list : List ℕ) → is_record a ≡ false → Says line a kind fields list → NoRecord line
-  said-none Record kind fields list e s = absurd (false≢true (sym e))
-  said-none NoKind kind fields list e s = s
-  said-none (NoField field) kind fields list e s = s.1
-  said-none (NoException read) kind fields list e s = s.1
-  said-none TooLong kind fields list e s = s.1
+use Rattle.parsing.specs.Parsing.{OfRecord}
+use Rattle.packing.specs.Packs.{RecordPut}
 
 -- the exceptions announced stand first in a list that has room for the most
 pub listed-shape : (kind : ℕ) (fields list : List ℕ) → shaped kind fields (announced kind fields) ≡ true → length list ≡ 400
@@ -52,19 +32,19 @@ module _ (kind : ℕ) (cells x : List ℕ) (t : shaped kind cells (length x) ≡
       let most : length x ≤ 400 = omega (arith, s.few, s.there) in
       omega (arith, size-record kind own x, size-short kind own x few most)
 
-  module _ (room : List ℕ) (used : ℕ) (fits : used + 4140 ≤ length room) {r : Written} {rest : List ℕ} (e : out r rest ≡ written_in (part used (length room - used) room) kind cells x) where
-    written : out r rest ≡ out (Done (length bytes)) (bytes ++ drop (length bytes) (drop used room))
+  module _ (room : List ℕ) (used : ℕ) (fits : used + 4140 ≤ length room) {r : Result ℕ Unwritten} {rest : List ℕ} (e : out r rest ≡ written_in (part used (length room - used) room) kind cells x) where
+    written : out r rest ≡ out (Ok (length bytes)) (bytes ++ drop (length bytes) (drop used room))
     written =
         e
         ∙ ap (λ l. written_in l kind cells x) (part-rest used room)
         ∙ done (drop used room) kind cells x t (count kind) refl (omega (arith, bytes-length, length-drop used room))
 
-    is-done : r ≡ Done (length bytes)
+    is-done : r ≡ Ok (length bytes)
     is-done = ap (λ o. o.answer) written
 
-    pub done-put : (n : ℕ) → r ≡ Done n → Put room used bytes (used + n) (with_part used (length room - used) room rest)
+    pub done-put : (n : ℕ) → r ≡ Ok n → Put room used bytes (used + n) (with_part used (length room - used) room rest)
     done-put n q =
-        let a : Done (length bytes) ≡ Done n = sym is-done ∙ q in
+        let a : Ok (length bytes) ≡ Ok n = sym is-done ∙ q in
         let m : length bytes ≡ n = cc in
         let all : length (drop used room) ≤ length room - used = omega (arith, length-drop used room) in
         let none : drop (length room - used) (drop used room) ≡ [] = drop_of_length-le (drop used room) all in
@@ -74,15 +54,9 @@ module _ (kind : ℕ) (cells x : List ℕ) (t : shaped kind cells (length x) ≡
           holds = ap (λ z. take used room ++ z) (ap (λ z. rest ++ z) none ∙ append-nil rest ∙ there);
         }
 
-    pub never-malformed : (first : ℕ) → r ≡ Malformed first → ⊥
-    never-malformed first q =
-        let a : Done (length bytes) ≡ Malformed first = sym is-done ∙ q in
-        let z : ◌≡◌ {A = ℕ} 0 1 = cc in
-        absurd (omega arith)
-
-    pub never-full : r ≡ NoRoom → ⊥
-    never-full q =
-        let a : Done (length bytes) ≡ NoRoom = sym is-done ∙ q in
+    pub never-refused : (why : Unwritten) → r ≡ Err why → ⊥
+    never-refused why q =
+        let a : Ok (length bytes) ≡ Err why = sym is-done ∙ q in
         let z : ◌≡◌ {A = ℕ} 0 1 = cc in
         absurd (omega arith)
 

@@ -1,11 +1,12 @@
 -- What packing a text in blocks keeps from turn to turn.
-use Rattle.std.specs.Prelude.{◌≡◌, true, false, cond, ℕ, ◌+◌, ◌-◌, ◌≤◌, ◌<◌}
+use Rattle.std.specs.Prelude.{◌≡◌, true, false, cond, ℕ, ◌+◌, ◌-◌, ◌≤◌, ◌<◌, Result, IfErr}
+use Rattle.std.specs.declared.ops.ControlFlow.{ControlFlow}
+use Rattle.std.specs.declared.ops.ControlFlow.TheVariants.{Continue, Break}
+use Rattle.window.specs.declared.Window.{Window}
 use Rattle.window.specs.Window.{Within}
 use Rattle.packing.specs.declared.packed.Progress.{Progress}
-use Rattle.packing.specs.declared.packed.Packed.{Packed}
-use Rattle.packing.specs.declared.packed.Packed.TheVariants.{All, BadLine, NotWritten}
-use Rattle.packing.specs.declared.packed.Turn.{Turn}
-use Rattle.packing.specs.declared.packed.Turn.TheVariants.{On, Ended}
+use Rattle.packing.specs.declared.packed.PackError.{PackError}
+use Rattle.packing.specs.declared.packed.PackError.TheVariants.{BadLine, NotWritten}
 
 -- how many bytes may still be packed: none from a line on that is no record
 abbrev pub ahead : ℕ → Progress → ℕ
@@ -37,12 +38,11 @@ pub record Reaches (end from : ℕ) (r : Progress) : Type 0 where
   pub line : 1 ≤ r.number
 
 -- a line that is no record has a number from 1 on
-abbrev pub Counted : Packed → Type 0
-Counted All = Unit
+abbrev pub Counted : PackError → Type 0
 Counted (BadLine number) = 1 ≤ number
 Counted NotWritten = Unit
 
 -- a run that goes on has a window within the block, at most a block further on in the text
-abbrev pub GoesOn : ℕ → ℕ → Turn → Type 0
-GoesOn size place (On w number) = Within size w × ((w.place ≤ place + size) × (1 ≤ number))
-GoesOn size place (Ended packed) = Counted packed
+abbrev pub GoesOn : ℕ → ℕ → ControlFlow (Result Unit PackError) (Window × ℕ) → Type 0
+GoesOn size place (Continue (w, number)) = Within size w × ((w.place ≤ place + size) × (1 ≤ number))
+GoesOn size place (Break packed) = IfErr packed Counted

@@ -1,9 +1,11 @@
 -- What unpacking a file in blocks keeps from turn to turn.
-use Rattle.std.specs.Prelude.{◌≡◌, false, cond, ℕ, ◌+◌, ◌-◌, ◌≤◌, ◌<◌}
+use Rattle.std.specs.Prelude.{◌≡◌, false, cond, ℕ, ◌+◌, ◌-◌, ◌≤◌, ◌<◌, Result}
+use Rattle.std.specs.declared.ops.ControlFlow.{ControlFlow}
+use Rattle.std.specs.declared.ops.ControlFlow.TheVariants.{Continue, Break}
+use Rattle.window.specs.declared.Window.{Window}
 use Rattle.window.specs.Window.{Within}
 use Rattle.packing.specs.declared.unpacked.Progress.{Progress}
-use Rattle.packing.specs.declared.unpacked.Turn.{Turn}
-use Rattle.packing.specs.declared.unpacked.Turn.TheVariants.{On, Ended}
+use Rattle.packing.specs.declared.unpacked.UnpackError.{UnpackError}
 
 -- how many bytes may still be unpacked: none where no record stands
 abbrev pub ahead : ℕ → Progress → ℕ
@@ -29,6 +31,6 @@ pub record Reaches (end from : ℕ) (r : Progress) : Type 0 where
   pub on : from ≤ r.at
 
 -- a run that goes on has a window within the block, at most a block further on in the file
-abbrev pub GoesOn : ℕ → ℕ → Turn → Type 0
-GoesOn size place (On w) = Within size w × (w.place ≤ place + size)
-GoesOn size place (Ended unpacked) = Unit
+abbrev pub GoesOn : ℕ → ℕ → ControlFlow (Result Unit UnpackError) Window → Type 0
+GoesOn size place (Continue w) = Within size w × (w.place ≤ place + size)
+GoesOn size place (Break unpacked) = Unit

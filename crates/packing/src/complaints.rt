@@ -1,10 +1,10 @@
 // What is said of a line that is no record: its number, what was expected, and a line as it should be.
 ghost use Rattle.std.specs.Prelude.{◌<◌};
 ghost use Rattle.fields.specs.Fields.{count};
+ghost use Rattle.parsing.specs.Parsing.{Names};
 
 use decimal::digits_of;
-use fields::{Count, WIDTH, announced, count_of};
-use parsing::Line;
+use parsing::LineError;
 use std::io::Write;
 use wording::{Style, put_label, style_of};
 
@@ -82,24 +82,20 @@ fn say_value<E: Write>(errors: &mut E, style: Style) {
 }
 
 // Says that a field of a kind was expected.
-fn say_field<E: Write>(errors: &mut E, kind: u64, field: usize) {
-    let Count::Of(n) = count_of(kind) else {
-        return;
-    };
-    if n <= field {
-        return;
-    }
+fn say_field<E: Write>(errors: &mut E, kind: u64, field: usize)
+    requires { field < count kind }
+{
     say_label(errors, kind, field);
     say_value(errors, style_of(kind, field));
     say_example(errors, kind);
 }
 
 // Says that so many exceptions were expected.
-fn say_exceptions<E: Write>(errors: &mut E, count: u64) {
+fn say_exceptions<E: Write>(errors: &mut E, kind: u64, count: u64) {
     say(errors, b" ");
     say_number(errors, count);
     say(errors, b" exception days after their number, at most 400");
-    say_example(errors, 0);
+    say_example(errors, kind);
 }
 
 // Says that nothing more was expected.
@@ -114,23 +110,22 @@ pub(crate) fn say_too_long<E: Write>(errors: &mut E, number: u64) {
     say(errors, b" a shorter line\n");
 }
 
-// Says what was expected of a line, by what was found.
-pub(crate) fn say_expected<E: Write>(
-    errors: &mut E,
-    number: u64,
-    found: Line,
-    kind: u64,
-    fields: [u64; WIDTH],
-) {
+// Says what was expected of a line that is no record's.
+pub(crate) fn say_expected<E: Write>(errors: &mut E, number: u64, error: LineError)
+    requires { Names error }
+{
     say_line(errors, number);
-    match found {
-        Line::NoKind => say(
+    match error {
+        LineError::NoKind => say(
             errors,
             b" a record: start, enrol, pay-in, pay-out, release, special, limits, open, trade, quote, settle, refresh or close\n",
         ),
-        Line::NoField(field) => say_field(errors, kind, field),
-        Line::NoException(_read) => say_exceptions(errors, announced(kind, fields)),
-        Line::TooLong => say_end(errors, kind),
-        Line::Record => say_end(errors, kind),
+        LineError::NoField { kind, field } => say_field(errors, kind, field),
+        LineError::NoException {
+            kind,
+            announced,
+            ..
+        } => say_exceptions(errors, kind, announced),
+        LineError::TooLong { kind } => say_end(errors, kind),
     }
 }

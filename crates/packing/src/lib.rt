@@ -7,5 +7,5 @@ mod packed;
 mod squeezed;
 mod unpacked;
 
-pub use packed::{Packed, pack};
-pub use unpacked::{Unpacked, unpack};
+pub use packed::{PackError, pack};
+pub use unpacked::{UnpackError, unpack};

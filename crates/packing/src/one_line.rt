@@ -4,37 +4,17 @@ ghost use Rattle.fields.specs.Fields.{shaped};
 ghost use Rattle.records.specs.Records.{writing};
 ghost use Rattle.records.specs.Writing.{entry_of};
 ghost use Rattle.decimal.specs.Put.{Put};
-ghost use Rattle.packing.specs.Packs.{AtMost, RecordOf, is_record};
+ghost use Rattle.packing.specs.Packs.{AtMost, RecordOf};
 
 use crate::complaints::{say_expected, say_too_long};
-use crate::squeezed::{Squeezed, squeeze};
+use crate::squeezed::squeeze;
 use fields::{WIDTH, announced};
-use parsing::{Line, read_line};
-use records::{Written, write_record};
+use parsing::{Reading, read_line};
+use records::write_record;
 use std::io::Write;
 
 // No record's line is longer.
 const SQUEEZED: usize = 8914;
-
-// The place after the bytes of a line's record, or that the line is no record's.
-#[derive(Clone, Copy)]
-pub(crate) enum Packing {
-    After(usize),
-    Bad,
-}
-
-// Whether a record was found.
-fn is_record(found: Line) -> bool
-    ensures { result ≡ is_record found }
-{
-    match found {
-        Line::Record => true,
-        Line::NoKind => false,
-        Line::NoField(_field) => false,
-        Line::NoException(_read) => false,
-        Line::TooLong => false,
-    }
-}
 
 // Puts the bytes of a record at a place, and answers the place after them.
 fn put_bytes(
@@ -47,11 +27,9 @@ fn put_bytes(
     requires { (shaped kind fields (length exceptions.now) ≡ true) × (used + 4140 ≤ length room.old) }
     ensures { Put room.old used (writing (entry_of kind fields exceptions.now)) result room.new }
 {
-    let written = write_record(&mut room[used..], kind, fields, exceptions);
-    match written {
-        Written::Done(size) => used + size,
-        Written::Malformed(_first) => used,
-        Written::NoRoom => used,
+    match write_record(&mut room[used..], kind, fields, exceptions) {
+        Ok(size) => used + size,
+        Err(_) => used,
     }
 }
 
@@ -63,22 +41,22 @@ fn pack_record<E: Write>(
     list: &mut [u64],
     room: &mut [u8],
     used: usize,
-) -> Packing
+) -> Option<usize>
     requires { (length list.old ≡ 400) × (used + 4140 ≤ length room.old) }
     ensures record_of { RecordOf line.now room.old used result room.new }
     ensures at_most { AtMost used result }
 {
-    let read = read_line(line, &mut *list);
-    let found = read.answer;
-    let kind = read.kind;
-    let fields = read.fields;
-    if !is_record(found) {
-        say_expected(errors, number, found, kind, fields);
-        return Packing::Bad;
-    }
+    let reading = read_line(line, &mut *list);
+    let Reading { kind, fields } = match reading {
+        Ok(read) => read,
+        Err(error) => {
+            say_expected(errors, number, error);
+            return None;
+        }
+    };
     let count = announced(kind, fields) as usize;
     let after = put_bytes(room, used, kind, fields, &list[..count]);
-    Packing::After(after)
+    Some(after)
 }
 
 // Packs a line as a person writes it. One that is empty, but for spaces and a remark, is passed over.
@@ -90,17 +68,17 @@ fn pack_written<E: Write>(
     list: &mut [u64],
     room: &mut [u8],
     used: usize,
-) -> Packing
+) -> Option<usize>
     requires { (length list.old ≡ 400) × (used + 4140 ≤ length room.old) }
     ensures { AtMost used result }
 {
     let squeezed = squeeze(text, &mut *line);
-    let Squeezed::To(size) = squeezed else {
+    let Some(size) = squeezed else {
         say_too_long(errors, number);
-        return Packing::Bad;
+        return None;
     };
     if size == 0 {
-        return Packing::After(used);
+        return Some(used);
     }
     pack_record(errors, &line[..size], number, list, room, used)
 }
@@ -114,7 +92,7 @@ fn pack_within<E: Write>(
     list: &mut [u64; 400],
     room: &mut [u8],
     used: usize,
-) -> Packing
+) -> Option<usize>
     requires { used + 4140 ≤ length room.old }
     ensures { AtMost used result }
 {
@@ -128,7 +106,7 @@ pub(crate) fn pack_line<E: Write>(
     number: u64,
     room: &mut [u8],
     used: usize,
-) -> Packing
+) -> Option<usize>
     requires { used + 4140 ≤ length room.old }
     ensures { AtMost used result }
 {

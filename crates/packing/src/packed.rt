@@ -1,38 +1,27 @@
 // Text as an event file: a record for each line that is not empty.
-ghost use Rattle.std.specs.Prelude.{◌+◌, ◌-◌, ◌≤◌, ◌<◌, min, ◌≡◌, true, length};
+ghost use Rattle.std.specs.Prelude.{◌+◌, ◌-◌, ◌≤◌, ◌<◌, ◌≡◌, true, length, IfErr};
 ghost use Rattle.window.specs.Window.{Within};
 ghost use Rattle.packing.specs.PackTurns.{Counted, Nearer, Reaches, GoesOn, Ready, stopped_at};
 
 use crate::complaints::say_too_long;
-use crate::one_line::{Packing, pack_line};
+use crate::one_line::pack_line;
 use scan::line_end;
 use std::io::{Read, Write};
-use window::{Window, first_window, refill};
+use std::ops::ControlFlow;
+use window::{BLOCK, LONGEST, TURNS, Window, first_window, is_whole, left_of, refill};
 
-// How many bytes of the text, and of the file, are held at a time.
-const BLOCK: usize = 65536;
-
-// A line with its remark may be so long, and no record is longer.
+// A line with its remark may be so long.
 const LONGEST_LINE: usize = 32768;
 
-const LONGEST: usize = 4140;
-
-// A turn that does not end the run takes at least a byte of the text, so that these, 2^47, are enough for any text. Each takes at most a
-// block, so that every place is at most 2^63.
-const TURNS: u64 = 140737488355328;
-
-// The last line number: lines after it have it too.
-const LAST: u64 = 18446744073709551615;
-
-// What became of a text: all of it is written, a line is no record, or a write failed.
-#[derive(Clone, Copy)]
-pub enum Packed {
-    All,
+// Why not all of a text is written: a line is no record, or a write failed.
+#[derive(Clone, Copy, PartialEq, Eq, Debug)]
+pub enum PackError {
     BadLine(u64),
     NotWritten,
 }
 
 // How far a block is packed, and where its bytes end; the number of the next line. `bad`: that line is no record.
+// A flag and no Err: what was put before it stands, and is written.
 #[derive(Clone, Copy)]
 struct Progress {
     at: usize,
@@ -42,69 +31,26 @@ struct Progress {
 }
 
 // What a turn leaves: a window and a line number to go on with, or what became of the text.
-#[derive(Clone, Copy)]
-enum Turn {
-    On(Window, u64),
-    Ended(Packed),
-}
+type Turn = ControlFlow<Result<(), PackError>, (Window, u64)>;
 
 // Whether another line can be packed: its record has room, and it is whole, since enough bytes follow or the text has no more.
 fn is_next(p: Progress, end: usize, ended: bool) -> bool
     requires { p.at ≤ end }
     ensures { result ≡ true → Ready end p }
 {
-    if p.bad {
-        return false;
-    }
-    if BLOCK - LONGEST < p.used {
-        return false;
-    }
-    let left = end - p.at;
-    if ended {
-        return 0 < left;
-    }
-    LONGEST_LINE <= left
+    !p.bad && p.used <= BLOCK - LONGEST && is_whole(end - p.at, ended, LONGEST_LINE)
 }
 
 // Whether a line may go on behind the bytes in hand.
 fn is_cut(end: usize, all: usize, ended: bool) -> bool {
-    if ended {
-        return false;
-    }
-    end == all
-}
-
-// The place after a line that ends there: after its line feed, or the end.
-fn after_line(end: usize, all: usize) -> usize
-    requires { end ≤ all }
-    ensures { result ≡ min (end + 1) all }
-{
-    if end < all {
-        return end + 1;
-    }
-    end
-}
-
-// The number of the line after one.
-fn next_number(number: u64) -> u64
-    ensures { 1 ≤ result }
-{
-    if number < LAST {
-        return number + 1;
-    }
-    number
+    !ended && end == all
 }
 
 // The next line is no record.
 fn stopped(p: Progress) -> Progress
     ensures { result ≡ stopped_at p }
 {
-    Progress {
-        at: p.at,
-        used: p.used,
-        number: p.number,
-        bad: true,
-    }
+    Progress { bad: true, ..p }
 }
 
 // Packs the next line.
@@ -126,16 +72,14 @@ fn pack_next<E: Write>(
     }
     let packing = pack_line(errors, &bytes[at..end], p.number, room, p.used);
     match packing {
-        Packing::Bad => stopped(p),
-        Packing::After(used) => {
-            let next = after_line(end, bytes.len());
-            Progress {
-                at: next,
-                used,
-                number: next_number(p.number),
-                bad: false,
-            }
-        }
+        None => stopped(p),
+        // The next line begins after the line feed, if there is one. The last line number is that of all lines after it.
+        Some(used) => Progress {
+            at: (end + 1).min(bytes.len()),
+            used,
+            number: p.number.saturating_add(1),
+            bad: false,
+        },
     }
 }
 
@@ -157,6 +101,7 @@ fn pack_block<E: Write>(
         number,
         bad: false,
     };
+    // No index: how far a line reaches is known once it is read.
     while is_next(p, bytes.len(), ended) {
         p = pack_next(errors, bytes, &mut *room, p, ended);
     }
@@ -170,22 +115,13 @@ fn turned(p: Progress, w: Window) -> Turn
     requires to_bound { w.to ≤ 65536 }
     ensures { GoesOn w.to w.place result }
 {
-    let place = w.place + (p.at - w.from) as u64;
     if p.bad {
-        return Turn::Ended(Packed::BadLine(p.number));
+        return ControlFlow::Break(Err(PackError::BadLine(p.number)));
     }
-    if w.ended {
-        if p.at == w.to {
-            return Turn::Ended(Packed::All);
-        }
+    match left_of(w, p.at) {
+        None => ControlFlow::Break(Ok(())),
+        Some(rest) => ControlFlow::Continue((rest, p.number)),
     }
-    let next = Window {
-        from: p.at,
-        to: w.to,
-        place,
-        ended: w.ended,
-    };
-    Turn::On(next, p.number)
 }
 
 // A turn: reads on where it must, packs what it can, and writes that.
@@ -207,37 +143,36 @@ fn take_turn<R: Read, W: Write, E: Write>(
     let p = pack_block(errors, &block[..to], &mut *room, w.from, number, w.ended);
     let used = p.used;
     if output.write_all(&room[..used]).is_err() {
-        return Turn::Ended(Packed::NotWritten);
+        return ControlFlow::Break(Err(PackError::NotWritten));
     }
     turned(p, w)
 }
 
 // Takes turns until the text is done.
+// Each run has a loop of its own: one for all would take what is lent through a closure with these clauses again, and is no shorter.
 fn take_turns<R: Read, W: Write, E: Write>(
     input: &mut R,
     output: &mut W,
     errors: &mut E,
     block: &mut [u8],
     room: &mut [u8],
-) -> Packed
+) -> Result<(), PackError>
     requires { (length block.old ≤ 65536) × ((32768 ≤ length block.old) × (65536 ≤ length room.old)) }
-    ensures { Counted result }
+    ensures { IfErr result Counted }
 {
     let mut w = first_window();
     let mut number: u64 = 1;
-    let mut turns = TURNS;
-    while 0 < turns {
+    for _ in 0..TURNS {
         let turn = take_turn(input, output, errors, &mut *block, &mut *room, w, number);
         match turn {
-            Turn::Ended(packed) => return packed,
-            Turn::On(next, line) => {
+            ControlFlow::Break(packed) => return packed,
+            ControlFlow::Continue((next, line)) => {
                 w = next;
                 number = line;
             }
         }
-        turns -= 1;
     }
-    Packed::NotWritten
+    Err(PackError::NotWritten)
 }
 
 // Lends arrays as the block and the room. Their lengths are known by their types, and are not counted out.
@@ -247,15 +182,19 @@ fn pack_within<R: Read, W: Write, E: Write>(
     errors: &mut E,
     block: &mut [u8; BLOCK],
     room: &mut [u8; BLOCK],
-) -> Packed
-    ensures { Counted result }
+) -> Result<(), PackError>
+    ensures { IfErr result Counted }
 {
     take_turns(input, output, errors, block, room)
 }
 
 // Writes the records of a text, up to its end or to a line that is no record: what was expected there is said among the errors.
-pub fn pack<R: Read, W: Write, E: Write>(input: &mut R, output: &mut W, errors: &mut E) -> Packed
-    ensures { Counted result }
+pub fn pack<R: Read, W: Write, E: Write>(
+    input: &mut R,
+    output: &mut W,
+    errors: &mut E,
+) -> Result<(), PackError>
+    ensures { IfErr result Counted }
 {
     let mut block = [0u8; BLOCK];
     let mut room = [0u8; BLOCK];

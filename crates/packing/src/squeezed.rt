@@ -4,35 +4,20 @@ ghost use Rattle.packing.specs.Packs.{Inside};
 
 use scan::byte_end;
 
-// How many bytes the squeezed line has, or that it is longer than the room.
-#[derive(Clone, Copy)]
-pub(crate) enum Squeezed {
-    To(usize),
-    NoRoom,
-}
-
 // Whether a byte separates words.
 fn is_space(byte: u8) -> bool {
-    if byte == b' ' {
-        return true;
-    }
-    if byte == b'\t' {
-        return true;
-    }
-    byte == b'\r'
+    matches!(byte, b' ' | b'\t' | b'\r')
 }
 
 // How many bytes are put for a byte: none for a space, and one more where spaces stood before it and something before these.
 fn puts(byte: u8, spaced: bool, done: usize) -> usize {
     if is_space(byte) {
-        return 0;
+        0
+    } else if spaced && 0 < done {
+        2
+    } else {
+        1
     }
-    if spaced {
-        if 0 < done {
-            return 2;
-        }
-    }
-    1
 }
 
 // Puts so many bytes: a byte is the last of them, and a space is before it.
@@ -48,28 +33,25 @@ fn put_last(line: &mut [u8], done: usize, more: usize, byte: u8)
 }
 
 // Puts the words of a text with one space between them.
-fn squeeze_words(text: &[u8], line: &mut [u8]) -> Squeezed
+fn squeeze_words(text: &[u8], line: &mut [u8]) -> Option<usize>
     ensures { Inside (length line.old) result }
 {
     let mut done: usize = 0;
     let mut spaced = false;
-    let mut i: usize = 0;
-    while i < text.len() {
-        let byte = text[i];
-        let more = puts(byte, spaced, done);
+    for byte in text {
+        let more = puts(*byte, spaced, done);
         if line.len() - done < more {
-            return Squeezed::NoRoom;
+            return None;
         }
-        put_last(&mut *line, done, more, byte);
+        put_last(&mut *line, done, more, *byte);
         done += more;
         spaced = more == 0;
-        i += 1;
     }
-    Squeezed::To(done)
+    Some(done)
 }
 
 // Puts a line without its remark.
-pub(crate) fn squeeze(text: &[u8], line: &mut [u8]) -> Squeezed
+pub(crate) fn squeeze(text: &[u8], line: &mut [u8]) -> Option<usize>
     ensures { Inside (length line.old) result }
 {
     let end = byte_end(text, 0, b'#');

@@ -11,39 +11,24 @@ ghost use Rattle.packing.specs.Turns.{Nearer, Reaches, GoesOn, Ready};
 use decimal::put_word;
 use decoding::read_numbers;
 use fields::announced;
-use records::{Answer, read_record};
+use records::{Record, read_record};
 use std::io::{Read, Write};
-use window::{Window, first_window, refill};
+use std::ops::ControlFlow;
+use window::{BLOCK, LONGEST, TURNS, Window, first_window, is_whole, left_of, refill};
 use wording::put_record;
 
-// How many bytes of the file, and of the text, are held at a time.
-const BLOCK: usize = 65536;
-
-// No record is longer, and no line with its line feed.
-const LONGEST: usize = 4140;
-
+// No line is longer, with its line feed.
 const LONGEST_LINE: usize = 8915;
 
-// A turn that does not end the run takes at least a byte of the file, so that these, 2^47, are enough for any file. Each takes at most a
-// block, so that every place is at most 2^63.
-const TURNS: u64 = 140737488355328;
-
-// What became of a file: all of it is written, the bytes from a place on are no record, or a write failed.
-#[derive(Clone, Copy)]
-pub enum Unpacked {
-    All,
+// Why not all of a file is written: the bytes from a place on are no record, or a write failed.
+#[derive(Clone, Copy, PartialEq, Eq, Debug)]
+pub enum UnpackError {
     Damaged(u64),
     NotWritten,
 }
 
-// The place after a record and the place after its line, or that no record stands there.
-#[derive(Clone, Copy)]
-enum Unpacking {
-    Next(usize, usize),
-    Bad,
-}
-
 // How far a block is unpacked, and where its text ends. `bad`: no record stands there.
+// A flag and no Err: what was put before it stands, and is written.
 #[derive(Clone, Copy)]
 struct Progress {
     at: usize,
@@ -52,47 +37,28 @@ struct Progress {
 }
 
 // What a turn leaves: a window to go on with, or what became of the file.
-#[derive(Clone, Copy)]
-enum Turn {
-    On(Window),
-    Ended(Unpacked),
-}
+type Turn = ControlFlow<Result<(), UnpackError>, Window>;
 
 // Puts the line of a record whose own fields were read: its exceptions are read into the list lent.
-fn put_read(
-    bytes: &[u8],
-    kind: u64,
-    fields: [u64; 13],
-    more: usize,
-    list: &mut [u64],
-    room: &mut [u8],
-    used: usize,
-) -> usize
-    requires { (shaped kind fields (length list.old) ≡ true) × (used + 8915 ≤ length room.old) }
-    ensures { Put room.old used (line_of (entry kind fields (stored_from bytes.now more list.old).room)) result room.new }
+fn put_read(bytes: &[u8], read: Record, list: &mut [u64], room: &mut [u8], used: usize) -> usize
+    requires { (shaped read.kind read.fields (length list.old) ≡ true) × (used + 8915 ≤ length room.old) }
+    ensures { Put room.old used (line_of (entry read.kind read.fields (stored_from bytes.now read.more list.old).room)) result room.new }
 {
-    let _end = read_numbers(bytes, more, &mut *list);
-    let after = put_record(&mut *room, used, kind, fields, list);
+    let _end = read_numbers(bytes, read.more, &mut *list);
+    let after = put_record(&mut *room, used, read.kind, read.fields, list);
     put_word(room, after, b"\n")
 }
 
 // Puts the line of the record at a place.
-fn put_line(bytes: &[u8], at: usize, room: &mut [u8], used: usize) -> Unpacking
+fn put_line(bytes: &[u8], at: usize, room: &mut [u8], used: usize) -> Option<(usize, usize)>
     requires { used + 8915 ≤ length room.old }
     ensures { LineOf bytes.now at room.old used result room.new }
 {
-    let read = read_record(bytes, at);
-    let kind = read.kind;
-    let fields = read.fields;
-    let more = read.more;
-    let place = read.answer;
-    let Answer::Next(next) = place else {
-        return Unpacking::Bad;
-    };
+    let read = read_record(bytes, at).ok()?;
     let mut list = [0u64; 400];
-    let count = announced(kind, fields) as usize;
-    let after = put_read(bytes, kind, fields, more, &mut list[..count], room, used);
-    Unpacking::Next(next, after)
+    let count = announced(read.kind, read.fields) as usize;
+    let after = put_read(bytes, read, &mut list[..count], room, used);
+    Some((read.next, after))
 }
 
 // Whether another record can be unpacked: its line has room, and it is whole, since enough bytes follow or the file has no more.
@@ -100,17 +66,7 @@ fn is_next(p: Progress, end: usize, ended: bool) -> bool
     requires { p.at ≤ end }
     ensures { result ≡ true → Ready end p }
 {
-    if p.bad {
-        return false;
-    }
-    if BLOCK - LONGEST_LINE < p.used {
-        return false;
-    }
-    let left = end - p.at;
-    if ended {
-        return 0 < left;
-    }
-    LONGEST <= left
+    !p.bad && p.used <= BLOCK - LONGEST_LINE && is_whole(end - p.at, ended, LONGEST)
 }
 
 // Unpacks the next record.
@@ -118,15 +74,10 @@ fn unpack_next(bytes: &[u8], room: &mut [u8], p: Progress) -> Progress
     requires { (p.at < length bytes.now) × (p.used + 8915 ≤ length room.old) }
     ensures { Nearer (length bytes.now) p result }
 {
-    let at = p.at;
-    let unpacking = put_line(bytes, at, room, p.used);
+    let unpacking = put_line(bytes, p.at, room, p.used);
     match unpacking {
-        Unpacking::Bad => Progress {
-            at,
-            used: p.used,
-            bad: true,
-        },
-        Unpacking::Next(next, used) => Progress {
+        None => Progress { bad: true, ..p },
+        Some((next, used)) => Progress {
             at: next,
             used,
             bad: false,
@@ -144,6 +95,7 @@ fn unpack_block(bytes: &[u8], room: &mut [u8], from: usize, ended: bool) -> Prog
         used: 0,
         bad: false,
     };
+    // No index: each record says where the next one begins.
     while is_next(p, bytes.len(), ended) {
         p = unpack_next(bytes, &mut *room, p);
     }
@@ -157,21 +109,14 @@ fn turned(p: Progress, w: Window) -> Turn
     requires to_bound { w.to ≤ 65536 }
     ensures { GoesOn w.to w.place result }
 {
-    let place = w.place + (p.at - w.from) as u64;
     if p.bad {
-        return Turn::Ended(Unpacked::Damaged(place));
+        let place = w.place + (p.at - w.from) as u64;
+        return ControlFlow::Break(Err(UnpackError::Damaged(place)));
     }
-    if w.ended {
-        if p.at == w.to {
-            return Turn::Ended(Unpacked::All);
-        }
+    match left_of(w, p.at) {
+        None => ControlFlow::Break(Ok(())),
+        Some(rest) => ControlFlow::Continue(rest),
     }
-    Turn::On(Window {
-        from: p.at,
-        to: w.to,
-        place,
-        ended: w.ended,
-    })
 }
 
 // A turn: reads on where it must, unpacks what it can, and writes that.
@@ -191,33 +136,30 @@ fn take_turn<R: Read, W: Write>(
     let p = unpack_block(&block[..to], &mut *room, w.from, w.ended);
     let used = p.used;
     if output.write_all(&room[..used]).is_err() {
-        return Turn::Ended(Unpacked::NotWritten);
+        return ControlFlow::Break(Err(UnpackError::NotWritten));
     }
     turned(p, w)
 }
 
 // Takes turns until the file is done.
+// Each run has a loop of its own: one for all would take what is lent through a closure with these clauses again, and is no shorter.
 fn take_turns<R: Read, W: Write>(
     input: &mut R,
     output: &mut W,
     block: &mut [u8],
     room: &mut [u8],
-) -> Unpacked
+) -> Result<(), UnpackError>
     requires { (length block.old ≤ 65536) × ((4140 ≤ length block.old) × (65536 ≤ length room.old)) }
 {
     let mut w = first_window();
-    let mut turns = TURNS;
-    while 0 < turns {
+    for _ in 0..TURNS {
         let turn = take_turn(input, output, &mut *block, &mut *room, w);
         match turn {
-            Turn::Ended(unpacked) => return unpacked,
-            Turn::On(next) => {
-                w = next;
-            }
+            ControlFlow::Break(unpacked) => return unpacked,
+            ControlFlow::Continue(next) => w = next,
         }
-        turns -= 1;
     }
-    Unpacked::NotWritten
+    Err(UnpackError::NotWritten)
 }
 
 // Lends arrays as the block and the room. Their lengths are known by their types, and are not counted out.
@@ -226,12 +168,12 @@ fn unpack_within<R: Read, W: Write>(
     output: &mut W,
     block: &mut [u8; BLOCK],
     room: &mut [u8; BLOCK],
-) -> Unpacked {
+) -> Result<(), UnpackError> {
     take_turns(input, output, block, room)
 }
 
 // Writes the lines of the records of an event file, up to the file's end or to bytes that are no record.
-pub fn unpack<R: Read, W: Write>(input: &mut R, output: &mut W) -> Unpacked {
+pub fn unpack<R: Read, W: Write>(input: &mut R, output: &mut W) -> Result<(), UnpackError> {
     let mut block = [0u8; BLOCK];
     let mut room = [0u8; BLOCK];
     unpack_within(input, output, &mut block, &mut room)

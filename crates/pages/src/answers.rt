@@ -1,20 +1,23 @@
 // The one-line answers: why there is no explanation.
 use crate::Question;
-use crate::page::{put, put_piece};
-use crate::pieces::number_piece;
+use crate::page::Page;
+use crate::pieces::Piece;
 
-// Puts a number between two texts at the start of the page, and answers the length.
-fn put_about(page: &mut [u8], before: &[u8], number: u64, after: &[u8]) -> usize {
-    let first = put(&mut *page, 0, before);
-    let middle = put_piece(&mut *page, first, number_piece(number));
-    put(page, middle, after)
+// Puts a number between two texts at the start of a room.
+fn put_about<'a>(room: &'a mut [u8], before: &[u8], number: u64, after: &[u8]) -> Page<'a> {
+    let mut page = Page { room, used: 0 };
+    page.put(before);
+    page.put_piece(Piece::number(number));
+    page.put(after);
+    page
 }
 
-// Puts that a number is not known at the close of a day.
-fn put_missing(page: &mut [u8], before: &[u8], number: u64, after: &[u8], day: u64) -> usize {
-    let first = put_about(&mut *page, before, number, after);
-    let second = put_piece(&mut *page, first, number_piece(day));
-    put(page, second, b"\n")
+// Puts that a number is not known at the close of a day, and answers the length.
+fn put_missing(room: &mut [u8], before: &[u8], number: u64, after: &[u8], day: u64) -> usize {
+    let mut page = put_about(room, before, number, after);
+    page.put_piece(Piece::number(day));
+    page.put(b"\n");
+    page.used
 }
 
 // Puts that the file is damaged at a place.
@@ -25,14 +28,20 @@ pub fn put_damaged(page: &mut [u8], place: u64) -> usize {
         place,
         b"\n",
     )
+    .used
 }
 
 // Puts that the close is not in the file.
 pub fn put_no_close(page: &mut [u8], q: Question) -> usize {
-    if q.one_day {
-        return put_about(page, b"day ", q.day, b" is not closed in this file\n");
-    }
-    put(page, 0, b"no day is closed in this file\n")
+    let Some(day) = q.day else {
+        let mut answer = Page {
+            room: page,
+            used: 0,
+        };
+        answer.put(b"no day is closed in this file\n");
+        return answer.used;
+    };
+    put_about(page, b"day ", day, b" is not closed in this file\n").used
 }
 
 // Puts that the account is unknown at the close of a day.
@@ -46,12 +55,15 @@ pub fn put_no_account(page: &mut [u8], q: Question, day: u64) -> usize {
     )
 }
 
-// Puts that the contract is not listed at the close of a day.
+// Puts that the contract is not listed at the close of a day. Where none is asked for there is nothing to say.
 pub fn put_no_contract(page: &mut [u8], q: Question, day: u64) -> usize {
+    let Some(code) = q.code else {
+        return 0;
+    };
     put_missing(
         page,
         b"contract ",
-        q.code,
+        code,
         b" is not listed at the close of day ",
         day,
     )

@@ -5,13 +5,14 @@ use crate::Question;
 use crate::account::{put_call, put_money};
 use crate::contracts::{Contract, put_contract};
 use crate::dates::date_of;
-use crate::page::{put, put_piece};
-use crate::pieces::{number_piece, pair_piece};
+use crate::page::Page;
+use crate::pieces::Piece;
+use crate::rows::Rows;
 use particulars::{Parts, Standing};
 use reports::Bill;
 
 // What is explained: the day, how the contracts stood before the close and what it found, what was due before it, and what it left the
-// account with.
+// account with. The arrays are those in which `desk` and `particulars` answer, a place for each listed contract.
 #[derive(Clone, Copy)]
 pub struct Close {
     pub day: u64,
@@ -37,109 +38,74 @@ pub struct Notes {
 pub const LISTED: u64 = 1000;
 
 // Puts the account, the day and its date.
-fn put_title(page: &mut [u8], account: u64, day: u64) -> usize {
+fn put_title(page: &mut Page<'_>, account: u64, day: u64) {
     let date = date_of(day);
-    let first = put(&mut *page, 0, b"account ");
-    let number = put_piece(&mut *page, first, number_piece(account));
-    let second = put(&mut *page, number, b", day ");
-    let count = put_piece(&mut *page, second, number_piece(day));
-    let third = put(&mut *page, count, b" (");
-    let year = put_piece(&mut *page, third, number_piece(date.year));
-    let fourth = put(&mut *page, year, b"-");
-    let month = put_piece(&mut *page, fourth, pair_piece(date.month % 100));
-    let fifth = put(&mut *page, month, b"-");
-    let last = put_piece(&mut *page, fifth, pair_piece(date.day % 100));
-    put(page, last, b")\n\n")
+    page.put(b"account ");
+    page.put_piece(Piece::number(account));
+    page.put(b", day ");
+    page.put_piece(Piece::number(day));
+    page.put(b" (");
+    page.put_piece(Piece::number(date.year));
+    page.put(b"-");
+    page.put_piece(Piece::pair(date.month % 100));
+    page.put(b"-");
+    page.put_piece(Piece::pair(date.day % 100));
+    page.put(b")\n\n");
 }
 
-// The contract of a row.
-fn contract_at(x: Close, k: usize) -> Contract
-    requires { k ≤ 5 }
-{
-    let before = x.before;
-    Contract {
-        code: before.codes[k],
-        rate: x.rates[k],
-        rule: x.rules[k],
-        used: x.used[k],
-        previous: before.previous[k],
-        net: before.nets[k],
-        carried: x.carried[k],
-        sum: x.sums[k],
+impl Close {
+    // The contract of a row.
+    fn contract(&self, k: usize) -> Contract
+        requires { k ≤ 5 }
+    {
+        let before = self.before;
+        Contract {
+            code: before.codes[k],
+            rate: self.rates[k],
+            rule: self.rules[k],
+            used: self.used[k],
+            previous: before.previous[k],
+            net: before.nets[k],
+            carried: self.carried[k],
+            sum: self.sums[k],
+        }
     }
 }
 
 // Whether a code is shown: every one, or the one that is asked for.
 pub fn is_shown(q: Question, code: u64) -> bool {
-    if q.one_code {
-        return code == q.code;
-    }
-    true
-}
-
-// Puts a contract, if it is shown.
-fn put_shown(
-    page: &mut [u8],
-    at: usize,
-    counts: &[u64],
-    money: &[i64],
-    used: usize,
-    x: Contract,
-    q: Question,
-) -> usize
-    requires { (used * 3 ≤ length counts.now) × (used * 6 ≤ length money.now) }
-{
-    if !is_shown(q, x.code) {
-        return at;
-    }
-    put_contract(page, at, counts, money, used, x)
+    q.code.is_none_or(|asked| code == asked)
 }
 
 // Puts the contracts that are shown.
-fn put_contracts(
-    page: &mut [u8],
-    at: usize,
-    counts: &[u64],
-    money: &[i64],
-    used: usize,
-    x: Close,
-    q: Question,
-) -> usize
-    requires { (used * 3 ≤ length counts.now) × (used * 6 ≤ length money.now) }
-{
-    let mut next = at;
-    let mut k: usize = 0;
-    while k < 6 {
-        next = put_shown(&mut *page, next, counts, money, used, contract_at(x, k), q);
-        k += 1;
+fn put_contracts(page: &mut Page<'_>, rows: Rows<'_>, x: Close, q: Question) {
+    for k in 0..6 {
+        let contract = x.contract(k);
+        if is_shown(q, contract.code) {
+            put_contract(page, rows, contract);
+        }
     }
-    next
 }
 
-// Puts how many refused trades are not listed.
-fn put_more(page: &mut [u8], at: usize, refused: u64) -> usize {
-    if refused <= LISTED {
-        return at;
-    }
-    let first = put(&mut *page, at, b"  and ");
-    let count = put_piece(&mut *page, first, number_piece(refused - LISTED));
-    put(page, count, b" more\n")
-}
-
-// Puts the refused trades, if there are any.
-fn put_notes(page: &mut [u8], at: usize, notes: &[u8], n: Notes) -> usize {
+// Puts the refused trades, if there are any, and how many are not listed.
+fn put_notes(page: &mut Page<'_>, notes: &[u8], n: Notes) {
     if n.refused == 0 {
-        return at;
+        return;
     }
-    if notes.len() < n.used {
-        return at;
+    let Some(listed) = notes.get(..n.used) else {
+        return;
+    };
+    page.put(b"\nrefused trades that name the account:\n");
+    page.put(listed);
+    if LISTED < n.refused {
+        page.put(b"  and ");
+        page.put_piece(Piece::number(n.refused - LISTED));
+        page.put(b" more\n");
     }
-    let head = put(&mut *page, at, b"\nrefused trades that name the account:\n");
-    let listed = put(&mut *page, head, &notes[..n.used]);
-    put_more(page, listed, n.refused)
 }
 
-// Puts the whole explanation at the start of the page, and answers its length.
+// Puts the whole explanation at the start of the page, and answers its length. The table and the notes are lent as the caller keeps them, with
+// their lengths beside, since docs/CONTRACTS.md promises this call.
 pub fn put_close(
     page: &mut [u8],
     counts: &[u64],
@@ -152,11 +118,19 @@ pub fn put_close(
 ) -> usize
     requires { (used * 3 ≤ length counts.now) × (used * 6 ≤ length money.now) }
 {
-    let parts = x.parts;
-    let bill = x.bill;
-    let title = put_title(&mut *page, q.account, x.day);
-    let contracts = put_contracts(&mut *page, title, counts, money, used, x, q);
-    let account = put_money(&mut *page, contracts, x.unpaid, bill, parts);
-    let call = put_call(&mut *page, account, bill.free, parts.cash, parts.flag);
-    put_notes(page, call, notes, n)
+    let rows = Rows {
+        counts,
+        money,
+        used,
+    };
+    let mut page = Page {
+        room: page,
+        used: 0,
+    };
+    put_title(&mut page, q.account, x.day);
+    put_contracts(&mut page, rows, x, q);
+    put_money(&mut page, x.unpaid, x.bill, x.parts);
+    put_call(&mut page, x.bill.free, x.parts.cash, x.parts.flag);
+    put_notes(&mut page, notes, n);
+    page.used
 }

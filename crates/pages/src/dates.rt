@@ -9,19 +9,10 @@ pub(crate) struct Date {
     pub day: u64,
 }
 
-// The days of the months of a year that is no leap year.
-const LENGTHS: [u64; 12] = [31, 28, 31, 30, 31, 30, 31, 31, 30, 31, 30, 31];
-
-// How many days a month has, from 0 for January on, in a year counted from 2020.
-fn month_length(year: u64, month: usize) -> u64
-    requires { month ≤ 11 }
-{
-    if month == 1 {
-        if year % 4 == 0 {
-            return 29;
-        }
-    }
-    LENGTHS[month]
+// The days of the months before December, in a year counted from 2020.
+fn month_lengths(year: u64) -> [u64; 11] {
+    let february = if year % 4 == 0 { 29 } else { 28 };
+    [31, february, 31, 30, 31, 30, 31, 31, 30, 31, 30]
 }
 
 // The year of a day, counted from 2020: every fourth one is a leap year.
@@ -47,20 +38,22 @@ fn day_in_year(day: u64) -> u64
 }
 
 pub(crate) fn date_of(day: u64) -> Date {
-    let year = year_of(day);
+    let counted = year_of(day);
+    let year = 2020 + counted;
     let mut left = day_in_year(day);
-    let mut month: usize = 0;
-    while month < 11 {
-        let length = month_length(year, month);
-        if left < length {
-            break;
+    for (i, length) in month_lengths(counted).iter().enumerate() {
+        if left < *length {
+            return Date {
+                year,
+                month: i as u64 + 1,
+                day: left + 1,
+            };
         }
-        left -= length;
-        month += 1;
+        left -= *length;
     }
     Date {
-        year: 2020 + year,
-        month: month as u64 + 1,
+        year,
+        month: 12,
         day: left + 1,
     }
 }

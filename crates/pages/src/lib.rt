@@ -10,17 +10,16 @@ mod dates;
 mod page;
 mod pieces;
 mod refused;
+mod rows;
 
 pub use answers::{put_damaged, put_no_account, put_no_close, put_no_contract};
 pub use close_page::{Close, LISTED, Notes, is_shown, put_close};
 pub use refused::put_refused;
 
-// What is asked: an account, the day of a close or the last one, and one contract or all.
+// What is asked: an account, the day of a close or, without one, the last, and one contract or, without a code, all.
 #[derive(Clone, Copy)]
 pub struct Question {
     pub account: u64,
-    pub one_day: bool,
-    pub day: u64,
-    pub one_code: bool,
-    pub code: u64,
+    pub day: Option<u64>,
+    pub code: Option<u64>,
 }

@@ -1,48 +1,80 @@
 // Short texts by value: numbers, rates, times, dates and yuan, as an explanation shows them.
 ghost use Rattle.std.specs.Prelude.{◌+◌, ◌≤◌, ◌<◌, length};
-ghost use Rattle.pages.specs.Pieces.{Short};
 
 use decimal::{digits_of, put_number, put_signed, put_word};
 use whole::size;
 use wording::{put_rate, put_time};
 
-// A text of at most 48 bytes.
+// A text of at most 48 bytes. An array and a length, since nothing here takes memory from a heap.
 #[derive(Clone, Copy)]
 pub(crate) struct Piece {
     pub text: [u8; 48],
     pub length: usize,
+    ghost short: { length ≤ 48 },
 }
 
-pub(crate) fn number_piece(number: u64) -> Piece
-    ensures { Short result }
-{
-    let mut text = [0u8; 48];
-    let length = put_number(&mut text, 0, number);
-    Piece { text, length }
-}
+impl Piece {
+    pub(crate) fn as_slice(&self) -> &[u8] {
+        &self.text[..self.length]
+    }
 
-pub(crate) fn signed_piece(number: i64) -> Piece
-    ensures { Short result }
-{
-    let mut text = [0u8; 48];
-    let length = put_signed(&mut text, 0, number);
-    Piece { text, length }
-}
+    pub(crate) fn number(number: u64) -> Piece {
+        let mut text = [0u8; 48];
+        let length = put_number(&mut text, 0, number);
+        Piece { text, length }
+    }
 
-pub(crate) fn rate_piece(rate: i64) -> Piece
-    ensures { Short result }
-{
-    let mut text = [0u8; 48];
-    let length = put_rate(&mut text, 0, rate);
-    Piece { text, length }
-}
+    pub(crate) fn signed(number: i64) -> Piece {
+        let mut text = [0u8; 48];
+        let length = put_signed(&mut text, 0, number);
+        Piece { text, length }
+    }
 
-pub(crate) fn time_piece(seconds: u64) -> Piece
-    ensures { Short result }
-{
-    let mut text = [0u8; 48];
-    let length = put_time(&mut text, 0, seconds);
-    Piece { text, length }
+    pub(crate) fn rate(rate: i64) -> Piece {
+        let mut text = [0u8; 48];
+        let length = put_rate(&mut text, 0, rate);
+        Piece { text, length }
+    }
+
+    pub(crate) fn time(seconds: u64) -> Piece {
+        let mut text = [0u8; 48];
+        let length = put_time(&mut text, 0, seconds);
+        Piece { text, length }
+    }
+
+    // A size in fen in yuan, and any size in hundredths in whole ones.
+    pub(crate) fn hundredths(number: u64) -> Piece {
+        let mut text = [0u8; 48];
+        let length = put_hundredths(&mut text, 0, number);
+        Piece { text, length }
+    }
+
+    // The same below zero.
+    fn minus(number: u64) -> Piece {
+        let mut text = [0u8; 48];
+        text[0] = b'-';
+        let length = put_hundredths(&mut text, 1, number);
+        Piece { text, length }
+    }
+
+    // An amount of fen in yuan.
+    pub(crate) fn yuan(fen: i64) -> Piece {
+        let far = size(fen);
+        if fen < 0 {
+            Piece::minus(far)
+        } else {
+            Piece::hundredths(far)
+        }
+    }
+
+    // Two digits.
+    pub(crate) fn pair(number: u64) -> Piece
+        requires { number < 100 }
+    {
+        let mut text = [0u8; 48];
+        let length = put_word(&mut text, 0, &pair(number));
+        Piece { text, length }
+    }
 }
 
 // Puts a comma where one is due.
@@ -75,11 +107,8 @@ fn put_grouped(room: &mut [u8], at: usize, number: u64) -> usize
     let mut digits = [0u8; 20];
     let count = digits_of(number, &mut digits);
     let mut next = at;
-    let mut i: usize = 0;
-    while i < count {
-        let digit = digits[i];
-        next = put_digit(&mut *room, next, is_comma_before(i, count), digit);
-        i += 1;
+    for (i, digit) in digits[..count].iter().enumerate() {
+        next = put_digit(&mut *room, next, is_comma_before(i, count), *digit);
     }
     next
 }
@@ -88,19 +117,14 @@ fn put_grouped(room: &mut [u8], at: usize, number: u64) -> usize
 fn is_comma_before(i: usize, count: usize) -> bool
     requires { i < count }
 {
-    if i == 0 {
-        return false;
-    }
-    (count - i) % 3 == 0
+    i != 0 && (count - i) % 3 == 0
 }
 
 // Two digits.
 fn pair(number: u64) -> [u8; 2]
     requires { number < 100 }
 {
-    let tens = 48 + (number / 10) as u8;
-    let ones = 48 + (number % 10) as u8;
-    [tens, ones]
+    [b'0' + (number / 10) as u8, b'0' + (number % 10) as u8]
 }
 
 // Puts a size in hundredths as whole ones with two places.
@@ -110,47 +134,5 @@ fn put_hundredths(room: &mut [u8], at: usize, size: u64) -> usize
 {
     let whole = put_grouped(&mut *room, at, size / 100);
     let point = put_word(&mut *room, whole, b".");
-    let cents = pair(size % 100);
-    put_word(room, point, &cents)
-}
-
-// A size in fen in yuan, and any size in hundredths in whole ones.
-pub(crate) fn hundredths_piece(number: u64) -> Piece
-    ensures { Short result }
-{
-    let mut text = [0u8; 48];
-    let length = put_hundredths(&mut text, 0, number);
-    Piece { text, length }
-}
-
-// The same below zero.
-fn minus_piece(number: u64) -> Piece
-    ensures { Short result }
-{
-    let mut text = [0u8; 48];
-    text[0] = b'-';
-    let length = put_hundredths(&mut text, 1, number);
-    Piece { text, length }
-}
-
-// An amount of fen in yuan.
-pub(crate) fn yuan_piece(fen: i64) -> Piece
-    ensures { Short result }
-{
-    let far = size(fen);
-    if fen < 0 {
-        return minus_piece(far);
-    }
-    hundredths_piece(far)
-}
-
-// Two digits.
-pub(crate) fn pair_piece(number: u64) -> Piece
-    requires { number < 100 }
-    ensures { Short result }
-{
-    let mut text = [0u8; 48];
-    let digits = pair(number);
-    let length = put_word(&mut text, 0, &digits);
-    Piece { text, length }
+    put_word(room, point, &pair(size % 100))
 }

@@ -1,8 +1,6 @@
 -- The value that a text may stand for: a loose guess, right for the text of a value and anything for another text.
-use Rattle.std.specs.Prelude.{cond, List, ℕ, ◌+◌, ◌*◌, ◌-◌, eqb, leb, get_or, take, drop}
+use Rattle.std.specs.Prelude.{cond, List, ℕ, ◌+◌, ◌*◌, ◌-◌, eqb, leb, get_or, take, drop, Option, Some, None}
 use Rattle.scan.specs.Text.{byte_end, number_in}
-use Rattle.scan.specs.declared.Number.{Number}
-use Rattle.scan.specs.declared.Number.TheVariants.{Of, NoNumber}
 use Rattle.wording.specs.declared.values.Style.{Style}
 use Rattle.wording.specs.declared.values.Style.TheVariants.{Plain, Rate, Time, Side}
 
@@ -13,9 +11,9 @@ digit_at word at = get_or word at 0 - 48
 abbrev pub two_at : List ℕ → ℕ → ℕ
 two_at word at = digit_at word at * 10 + digit_at word (at + 1)
 
-abbrev pub or_zero : Number → ℕ
-or_zero (Of n) = n
-or_zero NoNumber = 0
+abbrev pub or_zero : Option ℕ → ℕ
+or_zero (Some n) = n
+or_zero None = 0
 
 abbrev pub number_of : List ℕ → ℕ
 number_of word = or_zero (number_in word)

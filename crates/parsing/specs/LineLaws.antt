@@ -1,7 +1,7 @@
 -- How the parts of a line make its record: the word of the kind, the fields, the exceptions, and nothing after them.
-use Rattle.std.specs.Prelude.{◌≡◌, refl, ℕ, zero, suc, ◌+◌, ◌≤◌, ◌<◌, get_or, set, replicate}
+use Rattle.std.specs.Prelude.{◌≡◌, refl, ℕ, zero, suc, ◌≤◌, ◌<◌, replicate}
 use Rattle.std.proofs.Math.Path.{sym, ap}
-use Rattle.std.proofs.Common.{◌∙◌, zero-add, add-one, eqb-true, eq-eqb, le-leb, length-take, take-append-drop, drop_of_length-le, drop-cons, drop-set-lt, take_all, length-take-le}
+use Rattle.std.proofs.Common.{◌∙◌, zero-add, eqb-true, eq-eqb, le-leb, length-take, take-append-drop, drop_of_length-le, take_all, length-take-le}
 use Rattle.std.proofs.Math.Bool.{true, and-eq-true_iff}
 use mathlib.Core.List.{List, [], ◌∷◌, ◌++◌, append-nil}
 use native.Mathlib.Omega.{arith}
@@ -15,10 +15,8 @@ use Rattle.fields.specs.Fields.{count, announced, is_zero}
 use Rattle.fields.specs.FieldLaws.{is_known, counts-most, shape-tells}
 use Rattle.wording.specs.Words.{word_of}
 use Rattle.wording.specs.Text.{field_text, fields_text, exception_text, record_text}
-use Rattle.parsing.specs.declared.line.Line.{Line}
-use Rattle.parsing.specs.declared.line.Line.TheVariants.{Record, NoKind, NoField, NoException, TooLong}
-use Rattle.parsing.specs.Parsing.{Small, Sayable, NoRecord, OfRecord, Says}
-use Rattle.parsing.specs.Places.{Ends, run, Passed, Lacks, Tailed, NoTail, Tail}
+use Rattle.parsing.specs.Parsing.{Small, Sayable, NoRecord, OfRecord}
+use Rattle.parsing.specs.Places.{Ends, run, Passed, Lacks, Tailed, NoTail}
 use Rattle.parsing.specs.PlaceLaws.{goes_on, word_end, run_ends}
 use Rattle.parsing.specs.WordLaws.{fields-spaced, exceptions-spaced, word-seen, kind-only}
 
@@ -65,13 +63,6 @@ zeros-blank zero zero = refl
 zeros-blank zero (suc m) = zeros-blank zero m
 zeros-blank (suc n) zero = refl
 zeros-blank (suc n) (suc m) = zeros-blank n m
-
--- a field that is set leaves zeros after it
-pub zeros-after : (fields : List ℕ) (i n : ℕ) → i < length fields → all is_zero (drop i fields) ≡ true → all is_zero (drop (i + 1) (set fields i n)) ≡ true
-unfolding all
-zeros-after fields i n h e =
-    let rest = (and-eq-true_iff (is_zero (get_or fields i 0)) (all is_zero (drop (suc i) fields))).0 (rw (drop-cons fields i 0 h) at e) in
-    rw (add-one i, drop-set-lt (suc i) fields i n (omega arith)) rest.1
 
 small-take : (n : ℕ) {ns : List ℕ} → Small ns → Small (take n ns)
 small-take zero a = none_left
@@ -165,14 +156,14 @@ module _ (line : List ℕ) (end : ℕ) (last : end ≡ byte_end 32 line 0) where
           let after : all is_zero (drop n fs) ≡ true = rw (all_of, ← here.0) s.zeros in
           (here.0, fields-same n fs fields (say.width ∙ sym width) first after zeros, so.1 ∙ rw (drop_of_length-le (take n fs) none))
 
-      no-tail : NoTail line more (announced kind fields) → NoRecord line
+      pub no-tail : NoTail line more (announced kind fields) → NoRecord line
       no-tail none k fs es say e =
           let x = exceptions-here k fs es say e in
           let s = shape-tells k fs (length es) say.shape in
           let same : announced k fs ≡ announced kind fields = rw (x.0, x.1) in
           none es (s.there ∙ same) (omega (arith, s.few)) say.few x.2
 
-      record-there : (list : List ℕ) → Tailed line more (announced kind fields) list → OfRecord line kind fields list
+      pub record-there : (list : List ℕ) → Tailed line more (announced kind fields) list → OfRecord line kind fields list
       record-there list t =
           let many = announced kind fields in
           let rest = block exception_text (take many list) in
@@ -191,10 +182,3 @@ module _ (line : List ℕ) (end : ℕ) (last : end ≡ byte_end 32 line 0) where
                 let same : announced k fs ≡ many = rw (x.0, x.1) in
                 (x.0, x.1, t.only es ((shape-tells k fs (length es) say.shape).there ∙ same) say.few x.2);
           }
-
-      pub tail-says : (list : List ℕ) (answer : Line) → Tail line more (announced kind fields) list answer → Says line answer kind fields list
-      tail-says list Record t = record-there list t
-      tail-says list NoKind t = absurd t
-      tail-says list (NoField field) t = absurd t
-      tail-says list (NoException read) t = (below, no-tail t)
-      tail-says list TooLong t = (below, no-tail t)

@@ -1,11 +1,12 @@
 -- What a line says (docs/GUIDE.md, 'A day as text'): the record whose text it is, or that it is no record's text.
-use Rattle.std.specs.Prelude.{◌≡◌, true, List, ℕ, ◌≤◌, ◌<◌, length, take}
+use Rattle.std.specs.Prelude.{◌≡◌, true, List, ℕ, ◌≤◌, ◌<◌, length, take, Result, Ok, Err}
 use Rattle.lists.specs.All.{All}
 use Rattle.scan.specs.Text.{most}
 use Rattle.fields.specs.Fields.{count, announced, shaped}
 use Rattle.wording.specs.Text.{record_text}
-use Rattle.parsing.specs.declared.line.Line.{Line}
-use Rattle.parsing.specs.declared.line.Line.TheVariants.{Record, NoKind, NoField, NoException, TooLong}
+use Rattle.parsing.specs.declared.line.Reading.{Reading}
+use Rattle.parsing.specs.declared.line.LineError.{LineError}
+use Rattle.parsing.specs.declared.line.LineError.TheVariants.{NoKind, NoField, NoException, TooLong}
 
 -- numbers of 64 bits
 abbrev pub Small : List ℕ → Type 0
@@ -29,10 +30,13 @@ pub record OfRecord (line : List ℕ) (kind : ℕ) (fields list : List ℕ) : Ty
   pub only : (k : ℕ) (fs es : List ℕ) → Sayable k fs es → line ≡ record_text k fs es
       → (k ≡ kind) × (fs ≡ fields) × (es ≡ take (announced kind fields) list)
 
--- where it is no record, what was being read is one of the kind, and a field of the kind
-abbrev pub Says : List ℕ → Line → ℕ → List ℕ → List ℕ → Type 0
-Says line Record kind fields list = OfRecord line kind fields list
-Says line NoKind kind fields list = NoRecord line
-Says line (NoField field) kind fields list = (field < count kind) × NoRecord line
-Says line (NoException read) kind fields list = (kind < 13) × NoRecord line
-Says line TooLong kind fields list = (kind < 13) × NoRecord line
+-- what was being read where a line is no record's is one of the kind, a field of the kind, or an exception announced
+abbrev pub Names : LineError → Type 0
+Names NoKind = Unit
+Names (NoField kind field) = field < count kind
+Names (NoException kind many read) = (kind < 13) × (read < many)
+Names (TooLong kind) = kind < 13
+
+abbrev pub Says : List ℕ → Result Reading LineError → List ℕ → Type 0
+Says line (Ok read) list = OfRecord line read.kind read.fields list
+Says line (Err error) list = Names error × NoRecord line

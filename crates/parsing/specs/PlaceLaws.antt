@@ -1,5 +1,5 @@
 -- How a value is read: the word up to the next space is guessed, and its text compared. And how values are read one after the other.
-use Rattle.std.specs.Prelude.{◌≡◌, take, drop}
+use Rattle.std.specs.Prelude.{◌≡◌, take, drop, Option, Some, None}
 use Rattle.std.proofs.Math.Path.{refl, sym, ap}
 use Rattle.std.proofs.Common.{◌∙◌, zero-add, add-one, ne_eqb, length-append, take-append-drop, drop-drop, drop-cons, take-suc}
 use mathlib.Core.List.{List, [], ◌∷◌, ◌++◌, append_assoc, append-nil}
@@ -13,8 +13,6 @@ use Rattle.decimal.specs.Put.{Put}
 use Rattle.decimal.proofs.PutLaws.{put-length}
 use Rattle.wording.specs.Text.{value_text}
 use Rattle.wording.specs.declared.values.Style.{Style}
-use Rattle.parsing.specs.declared.parts.Valued.{Valued}
-use Rattle.parsing.specs.declared.parts.Valued.TheVariants.{Of, Nothing}
 use Rattle.parsing.specs.Guess.{guessed}
 use Rattle.parsing.specs.GuessLaws.{Seen, value-seen, guess-right, before-passed}
 use Rattle.parsing.specs.Parsing.{Small}
@@ -74,7 +72,7 @@ module _ (style : Style) (line : List ℕ) (at end value : ℕ) (here : at ≤ l
       let same : word ≡ text = rw (long, e) (take-append_seam text rest) in
       (same, guess ∙ ap (guessed style) same ∙ guess-right style n h, stop)
 
-  pub value_taken : word ≡ value_text style value → ReadsAt (value_text style) line at (Of value end)
+  pub value_taken : word ≡ value_text style value → ReadsAt (value_text style) line at (Some (value, end))
   value_taken same =
       record {
         sound =
@@ -85,7 +83,7 @@ module _ (style : Style) (line : List ℕ) (at end value : ℕ) (here : at ≤ l
         only = λ n rest h ends e. let r = right n rest h ends e in rw (r.1, r.2);
       }
 
-  pub value-refused : (word ≡ value_text style value → ⊥) → ReadsAt (value_text style) line at Nothing
+  pub value-refused : (word ≡ value_text style value → ⊥) → ReadsAt (value_text style) line at None
   value-refused other =
       record {
         sound = here;
@@ -94,16 +92,16 @@ module _ (style : Style) (line : List ℕ) (at end value : ℕ) (here : at ≤ l
 
 -- ---- a value behind a label
 module _ (label : List ℕ) (text : ℕ → List ℕ) (line : List ℕ) (at : ℕ) where
-  sound-behind : (r : Valued) → drop at line ≡ label ++ drop (at + length label) line → at ≤ length line
+  sound-behind : (r : Option (ℕ × ℕ)) → drop at line ≡ label ++ drop (at + length label) line → at ≤ length line
       → Sound text line (at + length label) r → Sound (λ n. label ++ text n) line at r
-  sound-behind (Of n next) e h s =
+  sound-behind (Some (n, next)) e h s =
       record {
         within = s.within;
         is = e ∙ ap (λ l. label ++ l) s.is ∙ sym (append_assoc label (text n) (drop next line));
       }
-  sound-behind Nothing e h s = h
+  sound-behind None e h s = h
 
-  pub labelled : (r : Valued) → drop at line ≡ label ++ drop (at + length label) line → at ≤ length line
+  pub labelled : (r : Option (ℕ × ℕ)) → drop at line ≡ label ++ drop (at + length label) line → at ≤ length line
       → ReadsAt text line (at + length label) r → ReadsAt (λ n. label ++ text n) line at r
   labelled r e h a =
       record {
@@ -112,10 +110,10 @@ module _ (label : List ℕ) (text : ℕ → List ℕ) (line : List ℕ) (at : �
             λ n rest k ends f.
             let behind = goes_on line label (text n ++ rest) at (f ∙ append_assoc label (text n) rest) in
             let long : at + length label + length (text n) ≡ at + length (label ++ text n) = omega (arith, length-append label (text n)) in
-            a.only n rest k ends behind ∙ ap (Of n) long;
+            a.only n rest k ends behind ∙ ap (λ z. Some (n, z)) long;
       }
 
-  pub unlabelled : at ≤ length line → ((rest : List ℕ) → drop at line ≡ label ++ rest → ⊥) → ReadsAt (λ n. label ++ text n) line at Nothing
+  pub unlabelled : at ≤ length line → ((rest : List ℕ) → drop at line ≡ label ++ rest → ⊥) → ReadsAt (λ n. label ++ text n) line at None
   unlabelled h other =
       record {
         sound = h;
@@ -182,7 +180,7 @@ module _ (text : ℕ → ℕ → List ℕ) where
           is = so.1 ∙ rw (drop-cons ms i 0 few) (append_assoc (text i (get_or ms i 0)) left rest);
         }
 
-    pub passed-more : (n next : ℕ) → ReadsAt (text i) line place (Of n next) → Passed text all line at next (ns ++ (n ∷ []))
+    pub passed-more : (n next : ℕ) → ReadsAt (text i) line place (Some (n, next)) → Passed text all line at next (ns ++ (n ∷ []))
     passed-more n next r =
         let long : length (ns ++ (n ∷ [])) ≡ suc i = length-append ns (n ∷ []) ∙ add-one i in
         record {
@@ -198,18 +196,19 @@ module _ (text : ℕ → ℕ → List ℕ) where
           only =
               λ ms rest k small ends e.
               let a = ahead ms rest k small ends e in
-              let found : Of n next ≡ Of a.value (place + length (text i a.value)) = r.only a.value a.behind a.small a.ends a.is in
-              let same : n ≡ a.value = cc in
-              let stop : next ≡ place + length (text i a.value) = cc in
+              let found : ◌≡◌ {A = Option (ℕ × ℕ)} (Some (n, next)) (Some (a.value, place + length (text i a.value))) = r.only a.value a.behind a.small a.ends a.is in
+              let both : ◌≡◌ {A = ℕ × ℕ} (n, next) (a.value, place + length (text i a.value)) = cc in
+              let same : n ≡ a.value = ap (λ k. k.0) both in
+              let stop : next ≡ place + length (text i a.value) = ap (λ k. k.1) both in
               let few : i < length ms = omega arith in (
                 rw (long, take-suc ms i 0 few, a.first, same, a.here),
                 rw (long, stop) (goes_on line (text i a.value) a.behind place a.is ∙ a.left),
               );
         }
 
-    pub passed-stuck : ReadsAt (text i) line place Nothing → Lacks text all line at
+    pub passed-stuck : ReadsAt (text i) line place None → Lacks text all line at
     passed-stuck r ms rest k small ends e =
         let a = ahead ms rest k small ends e in
-        let found : Nothing ≡ Of a.value (place + length (text i a.value)) = r.only a.value a.behind a.small a.ends a.is in
+        let found : ◌≡◌ {A = Option (ℕ × ℕ)} None (Some (a.value, place + length (text i a.value))) = r.only a.value a.behind a.small a.ends a.is in
         let z : ◌≡◌ {A = ℕ} 0 1 = cc in
         omega arith

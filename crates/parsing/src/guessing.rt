@@ -2,31 +2,24 @@
 ghost use Rattle.std.specs.Prelude.{◌≡◌, ◌≤◌, ◌<◌, get_or};
 ghost use Rattle.parsing.specs.Guess.{digit_at, number_of, two_at, time_in, size_in, doubled, rate_in, side_in, guessed};
 
-use scan::{Number, byte_end, number_in};
+use scan::{byte_end, number_in};
 use wording::Style;
 
 // No rate of 64 bits has more whole per cents.
 const PERCENTS: u64 = 922337203685477;
 
-// The largest number whose double is one of 64 bits.
-const HALF: u64 = 9223372036854775807;
-
 // The byte at a place, 0 past the end.
 fn byte_at(word: &[u8], at: usize) -> u8
     ensures { result ≡ get_or word.now at 0 }
 {
-    if at < word.len() { word[at] } else { 0 }
+    word.get(at).copied().unwrap_or(0)
 }
 
 // What a digit stands for.
 fn digit_at(word: &[u8], at: usize) -> u64
     ensures { (result ≡ digit_at word.now at) × (result ≤ 207) }
 {
-    let byte = byte_at(word, at);
-    if byte < b'0' {
-        return 0;
-    }
-    (byte - b'0') as u64
+    u64::from(byte_at(word, at).saturating_sub(b'0'))
 }
 
 // What two digits stand for.
@@ -41,7 +34,7 @@ fn two_at(word: &[u8], at: usize) -> u64
 fn number_of(word: &[u8]) -> u64
     ensures { result ≡ number_of word.now }
 {
-    let Number::Of(number) = number_in(word) else {
+    let Some(number) = number_in(word) else {
         return 0;
     };
     number
@@ -74,10 +67,7 @@ fn size_in(word: &[u8]) -> u64
 fn doubled(number: u64) -> u64
     ensures { (result ≡ doubled number) × (result ≤ 18446744073709551614) }
 {
-    if HALF < number {
-        return 0;
-    }
-    number * 2
+    number.checked_mul(2).unwrap_or(0)
 }
 
 // A rate, folded: twice its size, and one less below zero.
@@ -98,14 +88,11 @@ fn rate_in(word: &[u8]) -> u64
 fn side_in(word: &[u8]) -> u64
     ensures { result ≡ side_in word.now }
 {
-    let first = byte_at(word, 0);
-    if first == b'b' {
-        return 0;
+    match byte_at(word, 0) {
+        b'b' => 0,
+        b'o' => 1,
+        _ => number_of(word),
     }
-    if first == b'o' {
-        return 1;
-    }
-    number_of(word)
 }
 
 // The value that a text may stand for.

@@ -6,4 +6,4 @@ mod guessing;
 mod line;
 mod parts;
 
-pub use line::{Line, Reading, read_line};
+pub use line::{LineError, Reading, read_line};

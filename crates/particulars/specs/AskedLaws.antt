@@ -1,5 +1,5 @@
 -- What a proposed trade would give a side, from the rows that are loaded.
-use Rattle.std.specs.Prelude.{◌≡◌, refl, Bool, true, false, ◌||◌, List, [], ◌∷◌, ℕ, ◌<◌, eqb, ℤ, pos, neg_ℤ, length}
+use Rattle.std.specs.Prelude.{◌≡◌, refl, Bool, true, false, ◌||◌, List, [], ◌∷◌, ℕ, ◌<◌, eqb, ℤ, pos, neg_ℤ, length, Some, None}
 use Rattle.std.proofs.Math.Path.{sym, ap}
 use Rattle.std.proofs.Common.{ap₂, ◌∙◌, subst, ⊎_elim, arith, eq-eqb}
 use Rattle.std.proofs.Math.ListN.{set}
@@ -34,7 +34,6 @@ use Rattle.standing.specs.StandingLaws.{sound-kept, sound-holds}
 use Rattle.standing.specs.MemberLaws.{member-account}
 use Rattle.standing.specs.SoundLaws.{sound-header, sound-long}
 use Rattle.standing.specs.DealLaws.{Stands, held-sound, margins-sound, margins-are}
-use Rattle.particulars.specs.declared.Asked.TheVariants.{Of, Nothing}
 use Rattle.particulars.specs.Particulars.{IsSide, asked_in}
 use Rattle.particulars.specs.Proposed.{Proposed}
 
@@ -129,16 +128,16 @@ pub open_is : {c : List ℕ} {m : List ℤ} → Sound c m → {h : Header} {r : 
 open_is s p q = sym (q ∙ ap (λ (x : Header). eqb x.point 2 || eqb x.point 3) (p ∙ sound-header s))
 
 module _ (b : Book) (t : Trade) (n : ℕ) where
-  pub asked-shut : is_open b.today.point ≡ false → Nothing ≡ asked_in b t n
+  pub asked-shut : is_open b.today.point ≡ false → None ≡ asked_in b t n
   asked-shut o = sym (when_false _ _ o)
 
   module _ (live : is_open b.today.point ≡ true) where
-    pub asked-unlisted : is_listed b t.code ≡ false → Nothing ≡ asked_in b t n
+    pub asked-unlisted : is_listed b t.code ≡ false → None ≡ asked_in b t n
     asked-unlisted l = sym (when_true _ _ live ∙ when_false _ _ l)
 
     module _ (listed : is_listed b t.code ≡ true) where
-      pub asked-unknown : is_member b n ≡ false → Nothing ≡ asked_in b t n
+      pub asked-unknown : is_member b n ≡ false → None ≡ asked_in b t n
       asked-unknown e = sym (when_true _ _ live ∙ when_true _ _ listed ∙ when_false _ _ e)
 
-      pub asked-totals : is_member b n ≡ true → {x : Totals} → x ≡ side_totals b t n → Of x ≡ asked_in b t n
-      asked-totals e p = ap (λ (y : Totals). Of y) p ∙ sym (when_true _ _ live ∙ when_true _ _ listed ∙ when_true _ _ e)
+      pub asked-totals : is_member b n ≡ true → {x : Totals} → x ≡ side_totals b t n → Some x ≡ asked_in b t n
+      asked-totals e p = ap (λ (y : Totals). Some y) p ∙ sym (when_true _ _ live ∙ when_true _ _ listed ∙ when_true _ _ e)

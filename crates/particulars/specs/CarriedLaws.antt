@@ -1,5 +1,5 @@
 -- What a sound memory's rows had before today is what its book had.
-use Rattle.std.specs.Prelude.{◌≡◌, List, [], ◌∷◌, map, ℕ, ◌≤◌, ◌<◌, ℤ, pos, length, get_or}
+use Rattle.std.specs.Prelude.{◌≡◌, List, [], ◌∷◌, map, ℕ, ◌≤◌, ◌<◌, ℤ, pos, length, get_or, Some, None}
 use Rattle.std.proofs.Common.{sym, ◌∙◌, map-id, add-zero, arith}
 use Rattle.std.proofs.Math.Path.{ap}
 use Rattle.std.proofs.Math.Decide.{dec_lt}
@@ -10,7 +10,6 @@ use Rattle.lists.specs.PaddedLaws.{padded-length, padded-past}
 use Rattle.lists.specs.Parts.{part_at}
 use Rattle.lists.specs.Seek.{seek}
 use Rattle.lists.specs.Tabulate.{tab, tab-is}
-use Rattle.lists.specs.declared.Found.TheVariants.{At, Nothing}
 use Rattle.positions.specs.Deals.{flat}
 use Rattle.positions.specs.declared.Position.{Position}
 use Rattle.holdings.specs.declared.Holdings.{Holdings}
@@ -92,14 +91,14 @@ module _ {c : List ℕ} {m : List ℤ} (s : Sound c m) where
       previous-is i q ∙ part-of-row 6 blank_contract (contract_row b) (λ x. x.previous) b.contracts.codes i)
 
   -- ---- an account
-  pub nets-none : (n : ℕ) → seek (number_at c) n (header_at c).members 0 ≡ Nothing
+  pub nets-none : (n : ℕ) → seek (number_at c) n (header_at c).members 0 ≡ None
       → pos 0 ∷ pos 0 ∷ pos 0 ∷ pos 0 ∷ pos 0 ∷ pos 0 ∷ [] ≡ nets_before (view c m) n
   nets-none n e =
       let strange = member-none g (sound-holds s) n e in
       sym (table-alike 6 (pos 0) (λ k. (b.accounts.position n k).before) b.contracts.codes (kept-few g)
       (λ k. ap (λ (p : Position). p.before) (g.framed.strange-positions n k strange)))
 
-  pub nets-at : (n i : ℕ) → seek (number_at c) n (header_at c).members 0 ≡ At i → NetsAt c m n i
+  pub nets-at : (n i : ℕ) → seek (number_at c) n (header_at c).members 0 ≡ Some i → NetsAt c m n i
   unfolding tab
   nets-at n i e =
       let at = member-at g (sound-holds s) n i e in

@@ -1,6 +1,6 @@
 -- What a desk is told besides its bill: how the contracts stood before a close, the parts of its requirement, and the totals that a
 -- trade would give it.
-use Rattle.std.specs.Prelude.{◌≡◌, cond, List, map, ◌⊎◌, ℕ, ℤ, pos}
+use Rattle.std.specs.Prelude.{◌≡◌, cond, List, map, ◌⊎◌, ℕ, ℤ, pos, Option, Some, None}
 use Rattle.lists.specs.Padded.{padded}
 use Rattle.holdings.specs.Holdings.{basis}
 use Rattle.closing.specs.DayEnd.{over_limit}
@@ -9,10 +9,7 @@ use Rattle.model.specs.Calls.{Trade}
 use Rattle.model.specs.Refusals.{is_open, side_totals}
 use Rattle.particulars.specs.declared.Standing.{Standing}
 use Rattle.particulars.specs.declared.Parts.{Parts}
-use Rattle.particulars.specs.declared.Parted.{Parted}
-use Rattle.particulars.specs.declared.Parted.TheVariants.{With, Unknown}
-use Rattle.particulars.specs.declared.Asked.{Asked}
-use Rattle.particulars.specs.declared.Asked.TheVariants.{Of, Nothing}
+use Rattle.holdings.specs.declared.Totals.{Totals}
 
 -- the listed codes, their previous settlement rates, and the account's "net before today" in each
 abbrev pub previous_rates : Book → List ℤ
@@ -39,16 +36,16 @@ parts_of b n = record {
   flag = (b.accounts.funds n).flag;
 }
 
-abbrev pub parted_in : Book → ℕ → Parted
-parted_in b n = cond (is_member b n) (With (parts_of b n)) Unknown
+abbrev pub parted_in : Book → ℕ → Option Parts
+parted_in b n = cond (is_member b n) (Some (parts_of b n)) None
 
 -- a number that is one of a trade's two sides, which may be one account
 abbrev pub IsSide : Trade → ℕ → Type 0
 IsSide t n = (n ≡ t.buyer) ⊎ (n ≡ t.seller)
 
 -- "each side's total before and after and its limit", for a trade that need not be accepted
-abbrev pub asked_in : Book → Trade → ℕ → Asked
+abbrev pub asked_in : Book → Trade → ℕ → Option Totals
 asked_in b t n =
     cond (is_open b.today.point)
-    (cond (is_listed b t.code) (cond (is_member b n) (Of (side_totals b t n)) Nothing) Nothing)
-    Nothing
+    (cond (is_listed b t.code) (cond (is_member b n) (Some (side_totals b t n)) None) None)
+    None

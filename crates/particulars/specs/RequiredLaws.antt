@@ -1,9 +1,8 @@
 -- The parts that a sound memory's row tells are those of its book.
-use Rattle.std.specs.Prelude.{◌≡◌, List, ℕ, ◌<◌, ℤ}
+use Rattle.std.specs.Prelude.{◌≡◌, List, ℕ, ◌<◌, ℤ, Some, None}
 use Rattle.std.proofs.Common.{sym, ◌∙◌, arith}
 use Rattle.lists.specs.HasLaws.{when_true, when_false}
 use Rattle.lists.specs.Seek.{seek}
-use Rattle.lists.specs.declared.Found.TheVariants.{At, Nothing}
 use Rattle.accounts.specs.declared.Account.{Account}
 use Rattle.memory.specs.declared.header_row.Header.{Header}
 use Rattle.memory.specs.Layout.{header_at, account_at, number_at}
@@ -14,7 +13,6 @@ use Rattle.standing.specs.Made.{Sound}
 use Rattle.standing.specs.StandingLaws.{sound-kept, sound-holds}
 use Rattle.standing.specs.MemberLaws.{member-at, member-none, member-account}
 use Rattle.standing.specs.SoundLaws.{sound-header}
-use Rattle.particulars.specs.declared.Parted.TheVariants.{With, Unknown}
 use Rattle.particulars.specs.Particulars.{parted_in}
 use Rattle.particulars.specs.Required.{PartsFit, parts_at}
 
@@ -42,7 +40,7 @@ pub record PartedAt (c : List ℕ) (m : List ℤ) (n i : ℕ) : Type 0 where
   pub below : i < 64
   pub fit : {a : Account} {h : Header} → a ≡ account_at c m i → h ≡ header_at c → PartsFit a h.reference h.multiplier
   pub told : {a : Account} {h : Header} → a ≡ account_at c m i → h ≡ header_at c
-      → With (parts_at a h.reference h.multiplier) ≡ parted_in (view c m) n
+      → Some (parts_at a h.reference h.multiplier) ≡ parted_in (view c m) n
 
 module _ {c : List ℕ} {m : List ℤ} (s : Sound c m) where
   abbrev b : Book
@@ -51,10 +49,10 @@ module _ {c : List ℕ} {m : List ℤ} (s : Sound c m) where
   abbrev g : Kept b
   g = sound-kept s
 
-  pub parted-none : (n : ℕ) → seek (number_at c) n (header_at c).members 0 ≡ Nothing → Unknown ≡ parted_in (view c m) n
+  pub parted-none : (n : ℕ) → seek (number_at c) n (header_at c).members 0 ≡ None → None ≡ parted_in (view c m) n
   parted-none n e = sym (when_false _ _ (member-none g (sound-holds s) n e))
 
-  pub parted-at : (n i : ℕ) → seek (number_at c) n (header_at c).members 0 ≡ At i → PartedAt c m n i
+  pub parted-at : (n i : ℕ) → seek (number_at c) n (header_at c).members 0 ≡ Some i → PartedAt c m n i
   parted-at n i e =
       let at = member-at g (sound-holds s) n i e in
       let row : account_at c m i ≡ account_row b n = member-account g (sound-holds s) n i at.0 at.1.0 in

@@ -7,7 +7,6 @@ ghost use Rattle.particulars.specs.Particulars.{nets_before};
 ghost use Rattle.particulars.specs.Carried.{previous_at, before_in};
 
 use holdings::Holdings;
-use lists::Found;
 use memory::{find_account, load_account};
 
 // The codes of the six rows.
@@ -61,7 +60,7 @@ pub(crate) fn nets_before(counts: &[u64], money: &[i64], number: u64) -> [i64; 6
     requires { Sound counts.now money.now }
     ensures { result ≡ nets_before (view counts.now money.now) number }
 {
-    let Found::At(i) = find_account(counts, number) else {
+    let Some(i) = find_account(counts, number) else {
         return [0, 0, 0, 0, 0, 0];
     };
     let a = load_account(counts, money, i);

@@ -43,20 +43,6 @@ pub struct Parts {
     pub flag: bool,
 }
 
-// The parts, if there is such an account.
-#[derive(Clone, Copy)]
-pub enum Parted {
-    With(Parts),
-    Unknown,
-}
-
-// The totals that a trade would give a side, if the day is open, the code listed and the account enrolled.
-#[derive(Clone, Copy)]
-pub enum Asked {
-    Of(Totals),
-    Nothing,
-}
-
 // How the listed contracts stand before a close, and what the account of a number carried into the day.
 pub fn standing_of(counts: &[u64; COUNTS], money: &[i64; MONEY], number: u64) -> Standing
     requires { Sound counts.now money.now }
@@ -73,7 +59,7 @@ pub fn standing_of(counts: &[u64; COUNTS], money: &[i64; MONEY], number: u64) ->
 }
 
 // The parts of the requirement of the account of a number.
-pub fn parts_of(counts: &[u64; COUNTS], money: &[i64; MONEY], number: u64) -> Parted
+pub fn parts_of(counts: &[u64; COUNTS], money: &[i64; MONEY], number: u64) -> Option<Parts>
     requires { Sound counts.now money.now }
     ensures { result ≡ parted_in (view counts.now money.now) number }
 {
@@ -81,7 +67,12 @@ pub fn parts_of(counts: &[u64; COUNTS], money: &[i64; MONEY], number: u64) -> Pa
 }
 
 // The totals before and after a trade and the limit of one of its sides, whether or not the trade would be accepted.
-pub fn totals_asked(counts: &[u64; COUNTS], money: &[i64; MONEY], t: Deal, number: u64) -> Asked
+pub fn totals_asked(
+    counts: &[u64; COUNTS],
+    money: &[i64; MONEY],
+    t: Deal,
+    number: u64,
+) -> Option<Totals>
     requires { Sound counts.now money.now × (GoodTrade (trade_of t) × IsSide (trade_of t) number) }
     ensures { result ≡ asked_in (view counts.now money.now) (trade_of t) number }
 {

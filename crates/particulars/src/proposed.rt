@@ -9,11 +9,9 @@ ghost use Rattle.standing.specs.Made.{Sound};
 ghost use Rattle.particulars.specs.Particulars.{IsSide, asked_in};
 ghost use Rattle.particulars.specs.Proposed.{Proposed};
 
-use crate::Asked;
 use dealing::Deal;
 use holdings::{Totals, totals_of, with_trade};
 use hours::is_open;
-use lists::Found;
 use memory::{find_account, find_contract, load_account, load_header, load_margins};
 
 // The lots of a side, sold below 0. An account that is both sides buys.
@@ -43,19 +41,19 @@ fn side_totals(counts: &[u64], money: &[i64], t: Deal, number: u64, k: usize, i:
 }
 
 // The same, if the day is open, the code listed and the account enrolled.
-pub(crate) fn asked(counts: &[u64], money: &[i64], t: Deal, number: u64) -> Asked
+pub(crate) fn asked(counts: &[u64], money: &[i64], t: Deal, number: u64) -> Option<Totals>
     requires { Sound counts.now money.now × (GoodTrade (trade_of t) × IsSide (trade_of t) number) }
     ensures { result ≡ asked_in (view counts.now money.now) (trade_of t) number }
 {
     let h = load_header(counts);
     if !is_open(h.point) {
-        return Asked::Nothing;
+        return None;
     }
-    let Found::At(k) = find_contract(counts, t.code) else {
-        return Asked::Nothing;
+    let Some(k) = find_contract(counts, t.code) else {
+        return None;
     };
-    let Found::At(i) = find_account(counts, number) else {
-        return Asked::Nothing;
+    let Some(i) = find_account(counts, number) else {
+        return None;
     };
-    Asked::Of(side_totals(counts, money, t, number, k, i))
+    Some(side_totals(counts, money, t, number, k, i))
 }

@@ -5,11 +5,10 @@ ghost use Rattle.standing.specs.Made.{Sound};
 ghost use Rattle.particulars.specs.Particulars.{parted_in};
 ghost use Rattle.particulars.specs.Required.{PartsFit, parts_at};
 
-use crate::{Parted, Parts};
+use crate::Parts;
 use accounts::Account;
 use closing::over_limit;
 use holdings::basis;
-use lists::Found;
 use memory::{find_account, load_account, load_header};
 
 // The parts of the requirement of an account's row.
@@ -38,14 +37,14 @@ fn parts_in(a: Account, reference: u64, multiplier: u64) -> Parts
 }
 
 // The parts of the requirement of the account of a number, if there is one.
-pub(crate) fn parted(counts: &[u64], money: &[i64], number: u64) -> Parted
+pub(crate) fn parted(counts: &[u64], money: &[i64], number: u64) -> Option<Parts>
     requires { Sound counts.now money.now }
     ensures { result ≡ parted_in (view counts.now money.now) number }
 {
-    let Found::At(i) = find_account(counts, number) else {
-        return Parted::Unknown;
+    let Some(i) = find_account(counts, number) else {
+        return None;
     };
     let a = load_account(counts, money, i);
     let h = load_header(counts);
-    Parted::With(parts_in(a, h.reference, h.multiplier))
+    Some(parts_in(a, h.reference, h.multiplier))
 }

@@ -1,12 +1,13 @@
 -- A payment or a release: the model's answer, and the memory of the book after it.
-use Rattle.std.specs.Prelude.{◌≡◌, List, [], ◌∷◌, ℕ, ℤ}
+use Rattle.std.specs.Prelude.{◌≡◌, List, [], ◌∷◌, ℕ, ℤ, Result, Ok, Err}
 use Rattle.std.proofs.Math.Path.{refl}
 use Rattle.std.proofs.Common.{sym, ap, ◌∙◌, subst}
 use Rattle.funds.specs.Funds as funds
 use Rattle.funds.specs.Bounds as bounds
 use Rattle.funds.specs.BoundLaws.{sound-later}
-use Rattle.funds.specs.declared.Payment.{Payment}
-use Rattle.funds.specs.declared.Payment.TheVariants.{Made, InDefault, TooMuch, Full}
+use Rattle.funds.specs.declared.Funds.{Funds}
+use Rattle.funds.specs.declared.PaymentError.{PaymentError}
+use Rattle.funds.specs.declared.PaymentError.TheVariants.{InDefault, TooMuch, Full}
 use Rattle.accounts.specs.declared.Account.{Account}
 use Rattle.memory.specs.Layout.{header_at, account_at}
 use Rattle.memory.specs.Memory.{Holds}
@@ -24,15 +25,15 @@ use Rattle.standing.specs.MemberLaws.{funds-row}
 use Rattle.standing.specs.SoundLaws.{sound-shaped}
 use Rattle.places.specs.Places.{place_in}
 use Rattle.places.specs.PlaceLaws.{Named, Names, refused-place, named}
-use Rattle.places.specs.declared.Place.{Place}
-use Rattle.places.specs.declared.Place.TheVariants.{Row, Refused}
+use Rattle.refusals.specs.Refusals.{number_of}
+use Rattle.refusals.specs.declared.Refusal.{Refusal}
 use Rattle.payments.specs.Payments.{may_pay, paid_by, pay_call, with_funds, counts_paid, money_paid}
 use Rattle.payments.specs.declared.Way.{Way}
 use Rattle.payments.specs.declared.Way.TheVariants.{In, Out, Back}
 
 -- ---- by the way
 module _ (b : Book) (n : ℕ) (x : ℤ) where
-  abbrev answer : Way → Payment
+  abbrev answer : Way → Result Funds PaymentError
   answer way = paid_by way (b.accounts.funds n) x
 
   pay-names : (way : Way) → Names b (pay_call way n x) (may_pay way) n (funds.refusal_of (answer way) ∷ [])
@@ -46,14 +47,14 @@ module _ (b : Book) (n : ℕ) (x : ℤ) where
   pay-after Out = refl
   pay-after Back = refl
 
-last-test : (y : Payment) → first_of (funds.refusal_of y ∷ []) ≡ funds.refusal_of y
+last-test : (y : Result Funds PaymentError) → first_of (funds.refusal_of y ∷ []) ≡ funds.refusal_of y
 unfolding first_of
-last-test (Made f) = refl
-last-test InDefault = refl
-last-test TooMuch = refl
-last-test Full = refl
+last-test (Ok f) = refl
+last-test (Err InDefault) = refl
+last-test (Err TooMuch) = refl
+last-test (Err Full) = refl
 
-module _ {c : List ℕ} {m : List ℤ} (s : standing.Sound c m) (way : Way) (n : ℕ) (x : ℤ) {p : Place}
+module _ {c : List ℕ} {m : List ℤ} (s : standing.Sound c m) (way : Way) (n : ℕ) (x : ℤ) {p : Result ℕ Refusal}
     (finds : p ≡ place_in c (may_pay way (header_at c).point) n) where
   abbrev book : Book
   book = view c m
@@ -61,10 +62,10 @@ module _ {c : List ℕ} {m : List ℤ} (s : standing.Sound c m) (way : Way) (n :
   abbrev g : Kept book
   g = sound-kept s
 
-  pub pay-refused : {number : ℕ} → p ≡ Refused number → standing.Made c m (pay_call way n x) number c m
+  pub pay-refused : {refusal : Refusal} → p ≡ Err refusal → standing.Made c m (pay_call way n x) (number_of refusal) c m
   pay-refused = refused-place s n (pay_call way n x) (may_pay way) _ (pay-names book n x way) finds
 
-  module _ {i : ℕ} (q : p ≡ Row i) where
+  module _ {i : ℕ} (q : p ≡ Ok i) where
     pub payer : Named book c m (pay_call way n x) (funds.refusal_of (answer book n x way) ∷ []) n i
     payer = named s n (pay_call way n x) (may_pay way) _ (pay-names book n x way) finds q
 
@@ -77,17 +78,17 @@ module _ {c : List ℕ} {m : List ℤ} (s : standing.Sound c m) (way : Way) (n :
           subst (λ (r : Account). bounds.Sound bounds.days_most r.funds) (sym same) (sound-later ((kept-bounded g).funds n) (kept-bounded g).days)
 
       -- a payment changes one row, and any other answer none
-      holds-paid : (y : Payment) → after book (pay_call way n x) ≡ paid book n (funds.after (book.accounts.funds n) y)
+      holds-paid : (y : Result Funds PaymentError) → after book (pay_call way n x) ≡ paid book n (funds.after (book.accounts.funds n) y)
           → Holds (counts_paid c i a y) (money_paid m i a y) (rows_of (kept (funds.refusal_of y) book (pay_call way n x)))
-      holds-paid (Made f) e =
+      holds-paid (Ok f) e =
           rw same
           (subst (Holds _ _) (funds-row g n i payer.below payer.is f ∙ ap rows_of (sym e))
           (put-account (rows_of book) (sound-shaped s) (sound-holds s) i payer.small (with_funds (account_row book n) f)))
-      holds-paid InDefault e = sound-holds s
-      holds-paid TooMuch e = sound-holds s
-      holds-paid Full e = sound-holds s
+      holds-paid (Err InDefault) e = sound-holds s
+      holds-paid (Err TooMuch) e = sound-holds s
+      holds-paid (Err Full) e = sound-holds s
 
-      pub paid-made : {y : Payment} {number : ℕ} {c' : List ℕ} {m' : List ℤ} → y ≡ paid_by way a.funds x → number ≡ funds.refusal_of y
+      pub paid-made : {y : Result Funds PaymentError} {number : ℕ} {c' : List ℕ} {m' : List ℤ} → y ≡ paid_by way a.funds x → number ≡ funds.refusal_of y
           → c' ≡ counts_paid c i a y → m' ≡ money_paid m i a y → standing.Made c m (pay_call way n x) number c' m'
       paid-made answers refuses counts money =
           let y = answer book n x way in

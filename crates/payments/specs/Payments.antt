@@ -1,9 +1,8 @@
 -- The three ways of moving an account's money, and the memory after one of them.
-use Rattle.std.specs.Prelude.{Bool, List, ℕ, eqb, ltb, ℤ}
+use Rattle.std.specs.Prelude.{Bool, List, ℕ, eqb, ltb, ℤ, Result, Ok, Err}
 use Rattle.funds.specs.Funds.{paid_in, paid_out, released}
 use Rattle.funds.specs.declared.Funds.{Funds}
-use Rattle.funds.specs.declared.Payment.{Payment}
-use Rattle.funds.specs.declared.Payment.TheVariants.{Made, InDefault, TooMuch, Full}
+use Rattle.funds.specs.declared.PaymentError.{PaymentError}
 use Rattle.accounts.specs.declared.Account.{Account}
 use Rattle.memory.specs.Layout.{with_account_counts, with_account_money}
 use Rattle.model.specs.Calls.{Call, pay_in, pay_out, release}
@@ -16,7 +15,7 @@ may_pay In point = ltb 0 point
 may_pay Out point = ltb 0 point
 may_pay Back point = eqb point 3
 
-abbrev pub paid_by : Way → Funds → ℤ → Payment
+abbrev pub paid_by : Way → Funds → ℤ → Result Funds PaymentError
 paid_by In f x = paid_in f x
 paid_by Out f x = paid_out f x
 paid_by Back f x = released f x
@@ -30,14 +29,10 @@ pay_call Back n x = release n x
 abbrev pub with_funds : Account → Funds → Account
 with_funds a f = record { number = a.number; holdings = a.holdings; funds = f }
 
-abbrev pub counts_paid : List ℕ → ℕ → Account → Payment → List ℕ
-counts_paid counts i a (Made f) = with_account_counts counts i (with_funds a f)
-counts_paid counts i a InDefault = counts
-counts_paid counts i a TooMuch = counts
-counts_paid counts i a Full = counts
+abbrev pub counts_paid : List ℕ → ℕ → Account → Result Funds PaymentError → List ℕ
+counts_paid counts i a (Ok f) = with_account_counts counts i (with_funds a f)
+counts_paid counts i a (Err e) = counts
 
-abbrev pub money_paid : List ℤ → ℕ → Account → Payment → List ℤ
-money_paid money i a (Made f) = with_account_money money i (with_funds a f)
-money_paid money i a InDefault = money
-money_paid money i a TooMuch = money
-money_paid money i a Full = money
+abbrev pub money_paid : List ℤ → ℕ → Account → Result Funds PaymentError → List ℤ
+money_paid money i a (Ok f) = with_account_money money i (with_funds a f)
+money_paid money i a (Err e) = money

@@ -1,20 +1,19 @@
-// Calls that name one account and move its money: pay in, pay out and release (document 01, 'The day'). Each answers the number of
-// its refusal, 0 where it is accepted.
+// Calls that name one account and move its money: pay in, pay out and release (document 01, 'The day').
 #![tactic(auto)]
 
-ghost use Rattle.std.specs.Prelude.{◌≡◌, ◌<◌, ◌≤◌, pos};
+ghost use Rattle.std.specs.Prelude.{◌≡◌, ◌≤◌, pos};
 ghost use Rattle.whole.specs.Amounts.{Amount};
 ghost use Rattle.funds.specs.Bounds as bounds;
-ghost use Rattle.funds.specs.Funds.{refusal_of};
-ghost use Rattle.memory.specs.Layout.{Long};
 ghost use Rattle.model.specs.Calls.{pay_in, pay_out, release as release_call};
 ghost use Rattle.standing.specs.Made.{Sound, Made};
-ghost use Rattle.payments.specs.Payments.{may_pay, paid_by, pay_call, counts_paid, money_paid};
+ghost use Rattle.refusals.specs.Refusals.{outcome_number};
+ghost use Rattle.payments.specs.Payments.{may_pay, paid_by, pay_call};
 
 use accounts::Account;
-use funds::{Funds, Payment};
+use funds::{Funds, PaymentError};
 use memory::{load_account, load_header, store_account};
-use places::{Place, place_of};
+use places::place_of;
+use refusals::Refusal;
 
 // Into the cash, out of it, or from margin to cash.
 #[derive(Clone, Copy)]
@@ -36,7 +35,7 @@ fn may_pay(way: Way, point: u64) -> bool
 }
 
 // What moving an amount of an account's money answers.
-fn paid(way: Way, f: Funds, amount: i64) -> Payment
+fn paid(way: Way, f: Funds, amount: i64) -> Result<Funds, PaymentError>
     requires { bounds.Sound bounds.days_most f × Amount 100000000000000 amount }
     ensures { result ≡ paid_by way f amount }
 {
@@ -47,62 +46,61 @@ fn paid(way: Way, f: Funds, amount: i64) -> Payment
     }
 }
 
-// What a payment answers, done to the account in row i.
-fn pay(counts: &mut [u64], money: &mut [i64], i: usize, a: Account, payment: Payment) -> u64
-    requires { Long counts.old money.old × (i < 64) }
-    ensures { (result ≡ refusal_of payment) × ((counts.new ≡ counts_paid counts.old i a payment) × (money.new ≡ money_paid money.old i a payment)) }
-{
-    match payment {
-        Payment::Made(funds) => {
-            let mut x = a;
-            x.funds = funds;
-            store_account(&mut *counts, &mut *money, i, x);
-            0
-        }
-        Payment::InDefault => 12,
-        Payment::TooMuch => 15,
-        Payment::Full => 17,
-    }
-}
-
 // Money moved for the account of a number.
-fn transfer(counts: &mut [u64], money: &mut [i64], way: Way, number: u64, amount: u64) -> u64
+fn transfer(
+    counts: &mut [u64],
+    money: &mut [i64],
+    way: Way,
+    number: u64,
+    amount: u64,
+) -> Result<(), Refusal>
     requires { Sound counts.old money.old × (amount ≤ 100000000000000) }
-    ensures { Made counts.old money.old (pay_call way number (pos amount)) result counts.new money.new }
+    ensures { Made counts.old money.old (pay_call way number (pos amount)) (outcome_number result) counts.new money.new }
 {
     let h = load_header(&counts[..]);
     let allowed = may_pay(way, h.point);
-    match place_of(&counts[..], allowed, number) {
-        Place::Refused(no) => no,
-        Place::Row(i) => {
-            let a = load_account(&counts[..], &money[..], i);
-            let f = a.funds;
-            let payment = paid(way, f, amount as i64);
-            pay(&mut *counts, &mut *money, i, a, payment)
-        }
-    }
+    let i = place_of(&counts[..], allowed, number)?;
+    let a = load_account(&counts[..], &money[..], i);
+    let funds = paid(way, a.funds, amount as i64)?;
+    store_account(&mut *counts, &mut *money, i, Account { funds, ..a });
+    Ok(())
 }
 
 // Money into the cash of an account.
-pub fn pay_in(counts: &mut [u64], money: &mut [i64], number: u64, amount: u64) -> u64
+pub fn pay_in(
+    counts: &mut [u64],
+    money: &mut [i64],
+    number: u64,
+    amount: u64,
+) -> Result<(), Refusal>
     requires { Sound counts.old money.old × (amount ≤ 100000000000000) }
-    ensures { Made counts.old money.old (pay_in number (pos amount)) result counts.new money.new }
+    ensures { Made counts.old money.old (pay_in number (pos amount)) (outcome_number result) counts.new money.new }
 {
     transfer(&mut *counts, &mut *money, Way::In, number, amount)
 }
 
 // Money out of it.
-pub fn pay_out(counts: &mut [u64], money: &mut [i64], number: u64, amount: u64) -> u64
+pub fn pay_out(
+    counts: &mut [u64],
+    money: &mut [i64],
+    number: u64,
+    amount: u64,
+) -> Result<(), Refusal>
     requires { Sound counts.old money.old × (amount ≤ 100000000000000) }
-    ensures { Made counts.old money.old (pay_out number (pos amount)) result counts.new money.new }
+    ensures { Made counts.old money.old (pay_out number (pos amount)) (outcome_number result) counts.new money.new }
 {
     transfer(&mut *counts, &mut *money, Way::Out, number, amount)
 }
 
 // Margin to cash.
-pub fn release(counts: &mut [u64], money: &mut [i64], number: u64, amount: u64) -> u64
+pub fn release(
+    counts: &mut [u64],
+    money: &mut [i64],
+    number: u64,
+    amount: u64,
+) -> Result<(), Refusal>
     requires { Sound counts.old money.old × (amount ≤ 100000000000000) }
-    ensures { Made counts.old money.old (release_call number (pos amount)) result counts.new money.new }
+    ensures { Made counts.old money.old (release_call number (pos amount)) (outcome_number result) counts.new money.new }
 {
     transfer(&mut *counts, &mut *money, Way::Back, number, amount)
 }

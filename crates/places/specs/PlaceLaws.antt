@@ -1,9 +1,7 @@
 -- A call that names one account: its refusals 3 and 5, and what is known of the row that is found.
-use Rattle.std.specs.Prelude.{◌≡◌, refl, Bool, true, false, cond, List, ◌∷◌, ℕ, ◌<◌, ℤ, length, get_or}
+use Rattle.std.specs.Prelude.{◌≡◌, refl, Bool, true, false, cond, List, ◌∷◌, ℕ, ◌<◌, ℤ, length, get_or, Result, Ok, Err, Option, Some, None}
 use Rattle.std.proofs.Common.{sym, ap, ◌∙◌, subst, arith}
 use Rattle.lists.specs.Seek.{seek, on_found}
-use Rattle.lists.specs.declared.Found.{Found}
-use Rattle.lists.specs.declared.Found.TheVariants.{At, Nothing}
 use Rattle.memory.specs.declared.header_row.Header.{Header}
 use Rattle.memory.specs.Layout.{header_at, number_at, account_at}
 use Rattle.model.specs.Book.{Book, is_member}
@@ -16,8 +14,9 @@ use Rattle.standing.specs.StandingLaws.{refused-made, sound-kept, sound-holds}
 use Rattle.standing.specs.MemberLaws.{member-at, member-none, member-account}
 use Rattle.standing.specs.SoundLaws.{sound-header, first-passed, first-failed}
 use Rattle.places.specs.Places.{place_in}
-use Rattle.places.specs.declared.Place.{Place}
-use Rattle.places.specs.declared.Place.TheVariants.{Row, Refused}
+use Rattle.refusals.specs.Refusals.{number_of}
+use Rattle.refusals.specs.declared.Refusal.{Refusal}
+use Rattle.refusals.specs.declared.Refusal.TheVariants.{NotNow, UnknownAccount}
 
 -- the row of the member that a call names; the tests after the first two decide the call
 pub record Named (b : Book) (c : List ℕ) (m : List ℤ) (call : Call) (rest : List ℕ) (n i : ℕ) : Type 0 where
@@ -32,14 +31,14 @@ abbrev pub Names : Book → Call → (ℕ → Bool) → ℕ → List ℕ → Typ
 Names b call may n rest = tests b call ≡ needs (may (stage b.today.point)) 3 ∷ needs (is_member b n) 5 ∷ rest
 
 module _ {c : List ℕ} {m : List ℤ} (s : Sound c m) (n : ℕ) (call : Call) (may : ℕ → Bool) (rest : List ℕ)
-    (e : Names (view c m) call may n rest) {p : Place} (finds : p ≡ place_in c (may (header_at c).point) n) where
+    (e : Names (view c m) call may n rest) {p : Result ℕ Refusal} (finds : p ≡ place_in c (may (header_at c).point) n) where
   abbrev book : Book
   book = view c m
 
   abbrev g : Kept book
   g = sound-kept s
 
-  abbrev found : Found
+  abbrev found : Option ℕ
   found = seek (number_at c) n (header_at c).members 0
 
   abbrev t : Bool
@@ -48,30 +47,30 @@ module _ {c : List ℕ} {m : List ℤ} (s : Sound c m) (n : ℕ) (call : Call) (
   allowed : {u : Bool} → t ≡ u → may (stage book.today.point) ≡ u
   allowed d = ap (λ (x : Header). may x.point) (sym (sound-header s)) ∙ d
 
-  pub refused-place : {number : ℕ} → p ≡ Refused number → Made c m call number c m
-  refused-place {number} q = go t refl found refl (sym finds ∙ q)
+  pub refused-place : {refusal : Refusal} → p ≡ Err refusal → Made c m call (number_of refusal) c m
+  refused-place {refusal} q = go t refl found refl (sym finds ∙ q)
     where
-      go : (u : Bool) → t ≡ u → (f : Found) → found ≡ f → cond u (on_found f (Refused 5) Row) (Refused 3) ≡ Refused number
-          → Made c m call number c m
+      go : (u : Bool) → t ≡ u → (f : Option ℕ) → found ≡ f → cond u (on_found f (Err UnknownAccount) Ok) (Err NotNow) ≡ Err refusal
+          → Made c m call (number_of refusal) c m
       go false d f k r =
-          let z : 3 ≡ number = cc in
-          subst (λ j. Made c m call j c m) z (refused-made s call 2 (ap first_of e ∙ first-failed 2 _ (allowed d)))
-      go true d (At i) k r = let z : ◌≡◌ {A = ℕ} 0 1 = cc in absurd (omega arith)
-      go true d Nothing k r =
-          let z : 5 ≡ number = cc in
-          subst (λ j. Made c m call j c m) z
+          let z : NotNow ≡ refusal = cc in
+          subst (λ j. Made c m call (number_of j) c m) z (refused-made s call 2 (ap first_of e ∙ first-failed 2 _ (allowed d)))
+      go true d (Some i) k r = let z : ◌≡◌ {A = ℕ} 0 1 = cc in absurd (omega arith)
+      go true d None k r =
+          let z : UnknownAccount ≡ refusal = cc in
+          subst (λ j. Made c m call (number_of j) c m) z
           (refused-made s call 4 (ap first_of e ∙ first-passed 3 _ (allowed d) ∙ first-failed 4 rest (member-none g (sound-holds s) n k)))
 
-  pub named : {i : ℕ} → p ≡ Row i → Named book c m call rest n i
+  pub named : {i : ℕ} → p ≡ Ok i → Named book c m call rest n i
   named {i} q = go t refl found refl (sym finds ∙ q)
     where
-      go : (u : Bool) → t ≡ u → (f : Found) → found ≡ f → cond u (on_found f (Refused 5) Row) (Refused 3) ≡ Row i
+      go : (u : Bool) → t ≡ u → (f : Option ℕ) → found ≡ f → cond u (on_found f (Err UnknownAccount) Ok) (Err NotNow) ≡ Ok i
           → Named book c m call rest n i
       go false d f k r = let z : ◌≡◌ {A = ℕ} 0 1 = cc in absurd (omega arith)
-      go true d Nothing k r = let z : ◌≡◌ {A = ℕ} 0 1 = cc in absurd (omega arith)
-      go true d (At j) k r =
+      go true d None k r = let z : ◌≡◌ {A = ℕ} 0 1 = cc in absurd (omega arith)
+      go true d (Some j) k r =
           let z : j ≡ i = cc in
-          let a = member-at g (sound-holds s) n i (k ∙ ap At z) in
+          let a = member-at g (sound-holds s) n i (k ∙ ap Some z) in
           record {
             decides = ap first_of e ∙ first-passed 3 _ (allowed d) ∙ first-passed 5 rest a.1.1;
             below = a.0;

@@ -45,27 +45,27 @@ pub fn overnight(net: i64) -> Position
 pub fn no_positions() -> [Position; 6]
     ensures { result ≡ replicate 6 flat }
 {
-    let none = overnight(0);
-    [none; 6]
+    [overnight(0); 6]
 }
 
 // Whether a net is beyond what it may be, for refusal 13.
 pub fn is_beyond(p: Position) -> bool
     ensures { result ≡ is_beyond p }
 {
-    let far = size(p.net);
-    NET_MOST < far
+    NET_MOST < size(p.net)
 }
 
-// One position after lots bought, or sold where below 0, at a rate.
-fn dealt(p: Position, lots: i64, rate: i64) -> Position
-    requires { Modest p × (Within 1000 lots × Within 100000 rate) }
-    ensures { result ≡ dealt p lots rate }
-{
-    Position {
-        before: p.before,
-        net: p.net + lots,
-        cost: p.cost + lots * rate,
+impl Position {
+    // One position after lots bought, or sold where below 0, at a rate.
+    fn dealt(self, lots: i64, rate: i64) -> Position
+        requires { Modest self × (Within 1000 lots × Within 100000 rate) }
+        ensures { result ≡ dealt self lots rate }
+    {
+        Position {
+            net: self.net + lots,
+            cost: self.cost + lots * rate,
+            ..self
+        }
     }
 }
 
@@ -75,8 +75,6 @@ pub fn with_deal(positions: [Position; 6], row: usize, lots: i64, rate: i64) -> 
     ensures { result ≡ with_deal positions row lots rate }
 {
     let mut after = positions;
-    let p = positions[row];
-    let q = dealt(p, lots, rate);
-    after[row] = q;
+    after[row] = positions[row].dealt(lots, rate);
     after
 }

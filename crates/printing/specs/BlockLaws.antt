@@ -1,5 +1,7 @@
 -- Records printed one after the other print what stands in the file, whatever the block's end cuts.
 use Rattle.std.specs.Prelude.{◌≡◌, refl, Bool, true, false, ◌⊎◌, List, [], ◌++◌, ℕ, ◌+◌, ◌-◌, ◌≤◌, ◌<◌, ℤ, length, take, drop}
+use Rattle.std.specs.declared.ops.ControlFlow.{ControlFlow}
+use Rattle.std.specs.declared.ops.ControlFlow.TheVariants.{Continue, Break}
 use Rattle.std.proofs.Common.{sym, ap, ◌∙◌, subst, subst₂, inl, inr, append-nil, append_assoc, arith, length-drop}
 use Rattle.std.proofs.lemmas.Bool.{false≢true}
 use Rattle.std.proofs.Math.Seq.{take-append_seam, slice_empty}
@@ -12,8 +14,6 @@ use Rattle.window.specs.Window.{held, Refilled}
 use Rattle.printing.specs.declared.one_record.Printed.{Printed}
 use Rattle.printing.specs.declared.one_record.Printed.TheVariants.{Next, Bad}
 use Rattle.printing.specs.declared.run.Progress.{Progress}
-use Rattle.printing.specs.declared.run.Turn.{Turn}
-use Rattle.printing.specs.declared.run.Turn.TheVariants.{On, Ended}
 use Rattle.printing.specs.Printed.{Prints, ended, PrintedAt}
 use Rattle.printing.specs.PrintedLaws.{printed-next, printed-bad}
 use Rattle.printing.specs.Turns.{Printable}
@@ -84,19 +84,19 @@ module _ {counts counts' : List ℕ} {money money' : List ℤ} {enough : ℕ} {w
     (read : Refilled enough w block r block')
     (printed : PrintedUpTo (Follows r.ended) (take r.to block') (start r) counts money room p counts' money' room') where
   -- what is printed of the window, by how the turn ends
-  window-prints : (t : Turn) → TurnedTo p r t
+  window-prints : (t : ControlFlow Bool Window) → TurnedTo p r t
       → TurnPrints (view counts money) r.place (held r block') r.ended printed.text t (view counts' money') block'
-  window-prints (On next) (good, is) = rw is (refl, printed.first good)
-  window-prints (Ended true) (written, inl bad) = printed.all bad
-  window-prints (Ended true) (written, inr (good, (end, all))) = λ more follows small.
+  window-prints (Continue next) (good, is) = rw is (refl, printed.first good)
+  window-prints (Break true) (written, inl bad) = printed.all bad
+  window-prints (Break true) (written, inr (good, (end, all))) = λ more follows small.
       let b = view counts money in
       let s = held r block' in
       let nothing : drop p.at (take r.to block') ≡ [] = ap (λ n. drop n (take r.to block')) all ∙ slice_empty r.to block' in
       let done : Prints (view counts' money') p.place (drop p.at (take r.to block') ++ []) [] = rw nothing ended in
       subst₂ (λ z text. Prints b r.place (s ++ z) text) (sym (follows end)) (append-nil printed.text) (printed.first good [] [] done)
-  window-prints (Ended false) u = tt
+  window-prints (Break false) u = tt
 
-  pub turn-taken : (t : Turn) → TurnPrints (view counts money) r.place (held r block') r.ended printed.text t (view counts' money') block'
+  pub turn-taken : (t : ControlFlow Bool Window) → TurnPrints (view counts money) r.place (held r block') r.ended printed.text t (view counts' money') block'
       → TurnTaken counts money w block t counts' money' block' room'
   turn-taken t prints = record {
     got = read.got;
@@ -109,5 +109,5 @@ module _ {counts counts' : List ℕ} {money money' : List ℤ} {enough : ℕ} {w
         read.place read.bytes prints;
   }
 
-  pub turned_taken : (t : Turn) → TurnedTo p r t → TurnTaken counts money w block t counts' money' block' room'
+  pub turned_taken : (t : ControlFlow Bool Window) → TurnedTo p r t → TurnTaken counts money w block t counts' money' block' room'
   turned_taken t turned = turn-taken t (window-prints t turned)

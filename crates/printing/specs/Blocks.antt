@@ -1,5 +1,7 @@
 -- What a run over a file in blocks prints: of a block, and of a turn.
 use Rattle.std.specs.Prelude.{◌≡◌, Bool, true, false, ◌⊎◌, List, [], ◌++◌, ℕ, ◌≤◌, ℤ, length, take, drop}
+use Rattle.std.specs.declared.ops.ControlFlow.{ControlFlow}
+use Rattle.std.specs.declared.ops.ControlFlow.TheVariants.{Continue, Break}
 use Rattle.numbers.specs.Below.{Small}
 use Rattle.model.specs.Book.{Book}
 use Rattle.standing.specs.Standing.{view}
@@ -7,8 +9,6 @@ use Rattle.decimal.specs.Put.{Put}
 use Rattle.window.specs.declared.Window.{Window}
 use Rattle.window.specs.Window.{held}
 use Rattle.printing.specs.declared.run.Progress.{Progress}
-use Rattle.printing.specs.declared.run.Turn.{Turn}
-use Rattle.printing.specs.declared.run.Turn.TheVariants.{On, Ended}
 use Rattle.printing.specs.Printed.{Prints, PrintsFirst}
 
 -- ---- bytes of a file
@@ -36,19 +36,19 @@ pub record PrintedUpTo (May : List ℕ → Type 0) (bytes : List ℕ) (p : Progr
 
 -- ---- a turn
 -- how a turn ends by what is printed of a window: the run goes on with what is left, or ends at a bad record or at the file's end
-abbrev pub TurnedTo : Progress → Window → Turn → Type 0
-TurnedTo p w (On next) = (p.bad ≡ false) × (next ≡ record { from = p.at; to = w.to; place = p.place; ended = w.ended })
-TurnedTo p w (Ended written) = (written ≡ true) × ((p.bad ≡ true) ⊎ ((p.bad ≡ false) × ((w.ended ≡ true) × (p.at ≡ w.to))))
+abbrev pub TurnedTo : Progress → Window → ControlFlow Bool Window → Type 0
+TurnedTo p w (Continue next) = (p.bad ≡ false) × (next ≡ record { from = p.at; to = w.to; place = p.place; ended = w.ended })
+TurnedTo p w (Break written) = (written ≡ true) × ((p.bad ≡ true) ⊎ ((p.bad ≡ false) × ((w.ended ≡ true) × (p.at ≡ w.to))))
 
 -- By how a turn ends that had bytes s in hand: its text stands before what the file prints from the next window on; or it is all that the
 -- file prints; or it was not written.
-abbrev pub TurnPrints : Book → ℕ → List ℕ → Bool → List ℕ → Turn → Book → List ℕ → Type 0
-TurnPrints b place s ended text (On next) b' block = (next.ended ≡ ended) × PrintsFirst b place s text b' next.place (held next block)
-TurnPrints b place s ended text (Ended true) b' block = (more : List ℕ) → Follows ended more → Small more → Prints b place (s ++ more) text
-TurnPrints b place s ended text (Ended false) b' block = Unit
+abbrev pub TurnPrints : Book → ℕ → List ℕ → Bool → List ℕ → ControlFlow Bool Window → Book → List ℕ → Type 0
+TurnPrints b place s ended text (Continue next) b' block = (next.ended ≡ ended) × PrintsFirst b place s text b' next.place (held next block)
+TurnPrints b place s ended text (Break true) b' block = (more : List ℕ) → Follows ended more → Small more → Prints b place (s ++ more) text
+TurnPrints b place s ended text (Break false) b' block = Unit
 
 -- the bytes of the window and those that were read behind them are printed; the text stands at the front of the room, to be written
-pub record TurnTaken (counts : List ℕ) (money : List ℤ) (w : Window) (block : List ℕ) (t : Turn) (counts' : List ℕ) (money' : List ℤ) (block' room : List ℕ) : Type 0 where
+pub record TurnTaken (counts : List ℕ) (money : List ℤ) (w : Window) (block : List ℕ) (t : ControlFlow Bool Window) (counts' : List ℕ) (money' : List ℤ) (block' room : List ℕ) : Type 0 where
   pub got : List ℕ
   pub ended : Bool
   pub none : w.ended ≡ true → (got ≡ []) × (ended ≡ true)

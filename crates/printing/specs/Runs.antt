@@ -1,5 +1,6 @@
 -- Turns one after the other print the file: however it falls into blocks, their texts are its printed day.
 use Rattle.std.proofs.Common.{subst, append_assoc}
+use Rattle.std.specs.declared.ops.ControlFlow.TheVariants.{Continue, Break}
 use Rattle.std.specs.Prelude.{true, false, List, ◌++◌, ℕ, ℤ}
 use Rattle.numbers.specs.Below.{Small}
 use Rattle.memory.specs.Memory.{Holds}
@@ -9,7 +10,6 @@ use Rattle.standing.specs.Standing.{rows_of, view}
 use Rattle.standing.specs.StandingLaws.{view-is}
 use Rattle.window.specs.declared.Window.{Window}
 use Rattle.window.specs.Window.{held}
-use Rattle.printing.specs.declared.run.Turn.TheVariants.{On, Ended}
 use Rattle.printing.specs.Printed.{Prints}
 use Rattle.printing.specs.Blocks.{Follows, TurnTaken}
 
@@ -18,10 +18,10 @@ use Rattle.printing.specs.Blocks.{Follows, TurnTaken}
 -- behind a bad record.
 pub data Runs : List ℕ → List ℤ → Window → List ℕ → List ℕ → List ℕ → Type 0 where
   last : {counts counts' : List ℕ} {money money' : List ℤ} {w : Window} {block block' room more : List ℕ}
-      → (t : TurnTaken counts money w block (Ended true) counts' money' block' room) → Follows t.ended more → Small more
+      → (t : TurnTaken counts money w block (Break true) counts' money' block' room) → Follows t.ended more → Small more
       → Runs counts money w block (t.got ++ more) t.text
   next : {counts counts' : List ℕ} {money money' : List ℤ} {w w' : Window} {block block' room more text : List ℕ}
-      → (t : TurnTaken counts money w block (On w') counts' money' block' room) → Runs counts' money' w' block' more text
+      → (t : TurnTaken counts money w block (Continue w') counts' money' block' room) → Runs counts' money' w' block' more text
       → Runs counts money w block (t.got ++ more) (t.text ++ text)
 
 pub run-prints : {counts : List ℕ} {money : List ℤ} {w : Window} {block more text : List ℕ} → Runs counts money w block more text

@@ -1,14 +1,15 @@
 -- What a run over a file in blocks keeps from turn to turn.
 use Rattle.std.specs.Prelude.{◌≡◌, Bool, true, false, cond, ◌⊎◌, ℕ, ◌+◌, ◌-◌, ◌≤◌, ◌<◌}
+use Rattle.std.specs.declared.ops.ControlFlow.{ControlFlow}
+use Rattle.std.specs.declared.ops.ControlFlow.TheVariants.{Continue, Break}
+use Rattle.window.specs.declared.Window.{Window}
 use Rattle.window.specs.Window.{Within}
 use Rattle.printing.specs.declared.run.Progress.{Progress}
-use Rattle.printing.specs.declared.run.Turn.{Turn}
-use Rattle.printing.specs.declared.run.Turn.TheVariants.{On, Ended}
 
 -- a run that goes on has a window of the block, at most a block further on in the file
-abbrev pub GoesOn : ℕ → ℕ → Turn → Type 0
-GoesOn size place (On w) = Within size w × (w.place ≤ place + size)
-GoesOn size place (Ended written) = Unit
+abbrev pub GoesOn : ℕ → ℕ → ControlFlow Bool Window → Type 0
+GoesOn size place (Continue w) = Within size w × (w.place ≤ place + size)
+GoesOn size place (Break written) = Unit
 
 -- how many bytes may still be printed: none after a bad record
 abbrev pub ahead : ℕ → Progress → ℕ

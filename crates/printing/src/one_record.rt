@@ -3,11 +3,11 @@ ghost use Rattle.std.specs.Prelude.{◌≡◌, ◌+◌, ◌≤◌, ◌<◌, leng
 ghost use Rattle.standing.specs.Made.{Sound};
 ghost use Rattle.printing.specs.Printed.{PrintedAt};
 
-use book::{Fed, feed};
+use book::feed;
 use lines::{put_answer, put_bad};
 use memory::{COUNTS, MONEY};
 
-// The place after the record and the place after its text; or, for a bad record, the place after its text.
+// The place after the record and the place after its text; or, for a bad record, the place after its text. No Result: text is put in both cases.
 #[derive(Clone, Copy)]
 pub enum Printed {
     Next(usize, usize),
@@ -28,12 +28,11 @@ pub fn print_record(
     ensures { PrintedAt bytes.now at place counts.old money.old room.old used result counts.new money.new room.new }
 {
     let kind = wide(bytes[at]);
-    let fed = feed(&mut *counts, &mut *money, bytes, at);
-    match fed {
-        Fed::Malformed(_first) => Printed::Bad(put_bad(room, used, place)),
-        Fed::Next(next, answer) => {
-            let after = put_answer(&*counts, &*money, kind, answer, room, used);
-            Printed::Next(next, after)
+    match feed(&mut *counts, &mut *money, bytes, at) {
+        Err(_) => Printed::Bad(put_bad(room, used, place)),
+        Ok(fed) => {
+            let after = put_answer(&*counts, &*money, kind, fed.answer, room, used);
+            Printed::Next(fed.next, after)
         }
     }
 }

@@ -10,22 +10,14 @@ use crate::one_record::{Printed, print_record};
 use book::new_book;
 use memory::{COUNTS, MONEY};
 use std::io::{Read, Write};
-use window::{Window, first_window, refill};
-
-// How many bytes of the file are held at a time, and how many of the text.
-const BLOCK: usize = 65536;
-
-// No record is longer: a kind, thirteen fields and four hundred exceptions of ten bytes each.
-const LONGEST: usize = 4140;
+use std::ops::ControlFlow;
+use window::{BLOCK, LONGEST, TURNS, Window, first_window, is_whole, left_of, refill};
 
 // Text up to here leaves room for the longest answer.
 const NEARLY_FULL: usize = 57136;
 
-// A turn that does not end the run takes at least a byte of the file, so that these, 2^47, are enough for any file: one of 128 TiB. Each takes
-// at most a block, so that every place is at most 2^63.
-const TURNS: u64 = 140737488355328;
-
 // How far a block is printed, and where its text ends. `bad`: a bad record ended it.
+// A flag and no Err: what was put before it stands, and is written.
 #[derive(Clone, Copy)]
 struct Progress {
     at: usize,
@@ -35,11 +27,7 @@ struct Progress {
 }
 
 // What a turn leaves: a window to go on with, or whether all was written.
-#[derive(Clone, Copy)]
-enum Turn {
-    On(Window),
-    Ended(bool),
-}
+type Turn = ControlFlow<bool, Window>;
 
 // Whether another record can be printed: none before was bad, its text has room, and it is whole, since enough bytes follow or the file
 // has no more.
@@ -47,17 +35,7 @@ fn is_next(p: Progress, end: usize, ended: bool) -> bool
     requires { p.at ≤ end }
     ensures { result ≡ true → Printable end ended p }
 {
-    if p.bad {
-        return false;
-    }
-    if NEARLY_FULL < p.used {
-        return false;
-    }
-    let left = end - p.at;
-    if ended {
-        return 0 < left;
-    }
-    LONGEST <= left
+    !p.bad && p.used <= NEARLY_FULL && is_whole(end - p.at, ended, LONGEST)
 }
 
 // Prints the next record.
@@ -79,10 +57,9 @@ fn print_next(
     let printed = print_record(counts, money, bytes, at, p.place, room, p.used);
     match printed {
         Printed::Bad(after) => Progress {
-            at,
-            place: p.place,
             used: after,
             bad: true,
+            ..p
         },
         Printed::Next(next, after) => {
             let place = p.place + (next - at) as u64;
@@ -117,6 +94,7 @@ fn print_block(
         used: 0,
         bad: false,
     };
+    // No index: each record says where the next one begins.
     while is_next(p, bytes.len(), w.ended) {
         p = print_next(&mut *counts, &mut *money, bytes, &mut *room, p);
     }
@@ -125,22 +103,16 @@ fn print_block(
 
 // Whether a file is done: it ended at a bad record, or all of it is printed.
 fn turned(p: Progress, w: Window) -> Turn
+    requires { (w.from ≤ p.at) × (p.place + w.from ≡ w.place + p.at) }
     ensures { TurnedTo p w result }
 {
     if p.bad {
-        return Turn::Ended(true);
+        return ControlFlow::Break(true);
     }
-    if w.ended {
-        if p.at == w.to {
-            return Turn::Ended(true);
-        }
+    match left_of(w, p.at) {
+        None => ControlFlow::Break(true),
+        Some(rest) => ControlFlow::Continue(rest),
     }
-    Turn::On(Window {
-        from: p.at,
-        to: w.to,
-        place: p.place,
-        ended: w.ended,
-    })
 }
 
 // A turn: reads on where it must, prints what it can, and writes that.
@@ -165,12 +137,13 @@ fn take_turn<R: Read, W: Write>(
     let p = print_block(counts, money, &block[..to], &mut *room, w);
     let used = p.used;
     if output.write_all(&room[..used]).is_err() {
-        return Turn::Ended(false);
+        return ControlFlow::Break(false);
     }
     turned(p, w)
 }
 
 // Takes turns until the file is done or a write fails, and answers whether all was written.
+// Each run has a loop of its own: one for all would take what is lent through a closure, and of the memory nothing would be known after it.
 fn take_turns<R: Read, W: Write>(
     counts: &mut [u64; COUNTS],
     money: &mut [i64; MONEY],
@@ -183,16 +156,12 @@ fn take_turns<R: Read, W: Write>(
     ensures { Sound counts.new money.new }
 {
     let mut w = first_window();
-    let mut turns = TURNS;
-    while 0 < turns {
+    for _ in 0..TURNS {
         let turn = take_turn(counts, money, input, output, &mut *block, &mut *room, w);
         match turn {
-            Turn::Ended(written) => return written,
-            Turn::On(next) => {
-                w = next;
-            }
+            ControlFlow::Break(written) => return written,
+            ControlFlow::Continue(next) => w = next,
         }
-        turns -= 1;
     }
     false
 }

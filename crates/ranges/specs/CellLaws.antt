@@ -1,6 +1,7 @@
 -- What follows for cells: the steps by which the code walks, ranges as written, and that in range cell by cell is in range.
-use Rattle.std.specs.Prelude.{◌≡◌, refl, true, false, ◌&&◌, List, [], ◌∷◌, map, ℕ, zero, suc, ◌≤◌, ◌<◌, leb, length, get_or, drop}
-use Rattle.std.proofs.Common.{sym, ap, ◌∙◌, arith, le-leb, ne_eqb}
+use Rattle.std.specs.Prelude.{◌≡◌, refl, Bool, true, false, ◌&&◌, List, [], ◌∷◌, map, ℕ, zero, suc, ◌≤◌, ◌<◌, leb, length, get_or, drop}
+use Rattle.std.specs.List.{list_all, zip}
+use Rattle.std.proofs.Common.{sym, ap, ap₂, ◌∙◌, arith, le-leb, ne_eqb}
 use Rattle.std.proofs.Math.Bool.{and_assoc, and-false}
 use Rattle.std.proofs.Math.Decide.{ℕ_discrete}
 use Rattle.std.proofs.Math.Dec.{leb-zero}
@@ -66,6 +67,26 @@ all-zero : (cells : List ℕ) (i : ℕ) → every (cell_within []) i cells ≡ a
 unfolding cell_within all
 all-zero [] i = refl
 all-zero (n ∷ cells) i = ap (λ t. is_zero n && t) (all-zero cells (suc i))
+
+-- ---- the code's test: each cell beside its two ends
+
+abbrev pub between_ends : ℕ × (ℕ × ℕ) → Bool
+between_ends p = leb p.1.0 p.0 && leb p.0 p.1.1
+
+every-zipped : (quantities : List Quantity) (count : ℕ) (cells : List ℕ) → length cells ≡ count
+    → list_all between_ends (zip cells (zip (ends least quantities count) (ends greatest quantities count))) ≡ every (cell_within quantities) 0 cells
+unfolding ends cell_within
+every-zipped quantities zero [] h = refl
+every-zipped quantities zero (n ∷ cells) h = absurd (omega arith)
+every-zipped quantities (suc count) [] h = absurd (omega arith)
+every-zipped [] (suc count) (n ∷ cells) h =
+    ap₂ ◌&&◌ (sym (zero-written n)) (every-zipped [] count cells (omega arith) ∙ all-zero cells 0 ∙ sym (all-zero cells 1))
+every-zipped (q ∷ more) (suc count) (n ∷ cells) h =
+    ap₂ ◌&&◌ (sym (within-written (ceilings q) n)) (every-zipped more count cells (omega arith) ∙ sym (shifted q more cells 0))
+
+pub zipped-within : (quantities : List Quantity) (cells : List ℕ) (r : Row) → length cells ≡ 13 → r ≡ row quantities
+    → list_all between_ends (zip cells (zip r.least r.greatest)) ≡ cells_within quantities cells
+zipped-within quantities cells r h e = rw e (every-zipped quantities 13 cells h)
 
 pub cells_are : (quantities : List Quantity) (cells : List ℕ) → length quantities ≤ length cells → cells_within quantities cells ≡ all_within quantities cells && all is_zero (drop (length quantities) cells)
 unfolding cell_within all_within

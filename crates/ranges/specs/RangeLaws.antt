@@ -1,5 +1,5 @@
 -- What follows for ranges: ranges of numbers as they are written, and what a record in range tells.
-use Rattle.std.specs.Prelude.{◌≡◌, refl, Bool, true, false, ◌&&◌, cond, List, [], ◌∷◌, ℕ, zero, suc, ◌*◌, ◌/◌, ◌%◌, ◌≤◌, ◌<◌, T, leb, pos, length, get_or, ◌≤ℤ◌}
+use Rattle.std.specs.Prelude.{◌≡◌, refl, Bool, true, false, ◌&&◌, cond, List, [], ◌∷◌, ℕ, zero, suc, ◌*◌, ◌/◌, ◌%◌, ◌≤◌, ◌<◌, T, leb, pos, length, get_or, ◌≤ℤ◌, Ok, Err}
 use Rattle.std.proofs.Common.{sym, ◌∙◌, subst, arith, le-leb, leb-true}
 use Rattle.std.proofs.Math.Bool.{and-true, and-eq-true_iff}
 use Rattle.std.proofs.Math.Decide.{ℕ_discrete, dec_le}
@@ -11,7 +11,6 @@ use Rattle.days.specs.Days.{rising}
 use Rattle.folding.specs.Fold.{unfolded}
 use Rattle.folding.specs.FoldLaws.{unfolded-even, unfolded-odd}
 use Rattle.fields.specs.Fields.{Quantity, day, rate, Ceilings, between, signed_to, ceilings, fields_of, count, shaped}
-use Rattle.ranges.specs.declared.Checked.TheVariants.{Passed, Refused}
 use Rattle.ranges.specs.Ranges.{lowest, highest, meant, from, to, value, within_ceilings, all_within, in_range, checked, refusal_of}
 use Rattle.ranges.specs.Cells.{least, greatest}
 
@@ -74,7 +73,7 @@ within-at (q ∷ more) (n ∷ fields) (suc i) d a h = within-at more fields i d 
 pub refusal-number : (kind : ℕ) (fields exceptions : List ℕ) → refusal_of (checked kind fields exceptions) ≡ cond (in_range kind fields exceptions) 0 2
 refusal-number kind fields exceptions = go (in_range kind fields exceptions)
   where
-    go : (t : Bool) → refusal_of (cond t Passed (Refused 2)) ≡ cond t 0 2
+    go : (t : Bool) → refusal_of (cond t (Ok tt) (Err (record {}))) ≡ cond t 0 2
     go true = refl
     go false = refl
 

@@ -1,12 +1,11 @@
 -- Ranges: what document 01, 'Units and ceilings' and 'Refusal numbers', says of what a record's fields may hold.
-use Rattle.std.specs.Prelude.{Bool, true, false, ◌&&◌, cond, List, [], ◌∷◌, ℕ, ℤ, pos, neg_ℤ, length}
+use Rattle.std.specs.Prelude.{Bool, true, false, ◌&&◌, cond, List, [], ◌∷◌, ℕ, ℤ, pos, neg_ℤ, length, ⊤, Result, Ok, Err}
 use Rattle.std.specs.Int.Signed.{le_z}
 use Rattle.lists.specs.Passing.{all}
 use Rattle.days.specs.Days.{rising}
 use Rattle.folding.specs.Fold.{unfolded}
 use Rattle.fields.specs.Fields.{Quantity, day, Ceilings, between, signed_to, ceilings, fields_of, shaped}
-use Rattle.ranges.specs.declared.Checked.{Checked}
-use Rattle.ranges.specs.declared.Checked.TheVariants.{Passed, Refused}
+use Rattle.ranges.specs.declared.OutOfRange.{OutOfRange}
 
 -- ---- a field
 
@@ -51,10 +50,13 @@ in_range kind fields exceptions =
     shaped kind fields (length exceptions) && (all_within (fields_of kind) fields && (all (within_ceilings day) exceptions && rising exceptions))
 
 -- Number 2 is "field out of range, or exceptions not rising"
-abbrev pub checked : ℕ → List ℕ → List ℕ → Checked
-checked kind fields exceptions = cond (in_range kind fields exceptions) Passed (Refused 2)
+abbrev pub number_of : OutOfRange → ℕ
+number_of why = 2
+
+abbrev pub checked : ℕ → List ℕ → List ℕ → Result ⊤ OutOfRange
+checked kind fields exceptions = cond (in_range kind fields exceptions) (Ok tt) (Err (record {}))
 
 -- the refusal's number in document 01, 0 for none
-abbrev pub refusal_of : Checked → ℕ
-refusal_of Passed = 0
-refusal_of (Refused n) = n
+abbrev pub refusal_of : Result ⊤ OutOfRange → ℕ
+refusal_of (Ok passed) = 0
+refusal_of (Err why) = number_of why

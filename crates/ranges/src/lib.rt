@@ -4,20 +4,26 @@
 ghost use Rattle.std.specs.Prelude.{◌≡◌, ◌<◌};
 ghost use Rattle.lists.specs.Passing.{all};
 ghost use Rattle.fields.specs.Fields.{day, fields_of};
-ghost use Rattle.ranges.specs.Ranges.{within_ceilings, checked};
+ghost use Rattle.ranges.specs.Ranges.{within_ceilings, checked, number_of};
 ghost use Rattle.ranges.specs.Cells.{cells_within, row};
 
 use days::are_rising;
 use fields::{WIDTH, is_shaped};
 
-// What the range check answers: passed, or the refusal's number.
-#[derive(Clone, Copy)]
-pub enum Checked {
-    Passed,
-    Refused(u64),
+// Refusal 2: a field is out of range, or the exceptions do not rise.
+#[derive(Clone, Copy, PartialEq, Eq, Debug)]
+pub struct OutOfRange;
+
+impl OutOfRange {
+    // Its number in document 01.
+    pub fn number(self) -> u64
+        ensures { result ≡ number_of self }
+    {
+        2
+    }
 }
 
-// The ranges of a kind's cells.
+// The ranges of a kind's cells. Two arrays side by side, and not one of pairs, since the definition `row` of specs/Cells.antt is this struct.
 #[derive(Clone, Copy)]
 struct Row {
     least: [u64; WIDTH],
@@ -141,50 +147,29 @@ fn are_in_cells(kind: usize, fields: [u64; WIDTH]) -> bool
     ensures { result ≡ cells_within (fields_of kind) fields }
 {
     let row = row_of(kind);
-    let mut field: usize = 0;
-    while field < WIDTH {
-        if fields[field] < row.least[field] {
-            return false;
-        }
-        if row.greatest[field] < fields[field] {
-            return false;
-        }
-        field += 1;
-    }
-    true
+    let ends = row.least.iter().zip(row.greatest.iter());
+    fields.iter().zip(ends).all(|(field, (least, greatest))| (*least..=*greatest).contains(field))
 }
 
 // Whether each exception is a day of the calendar.
 fn are_days(exceptions: &[u64]) -> bool
     ensures { result ≡ all (within_ceilings day) exceptions.now }
 {
-    let mut i: usize = 0;
-    while i < exceptions.len() {
-        if 3652 < exceptions[i] {
-            return false;
-        }
-        i += 1;
-    }
-    true
+    exceptions.iter().all(|exception| *exception <= 3652)
 }
 
 // Whether a record's fields are in range and its exceptions are days that rise.
 // A record that no bytes can say is out of range too; who reads or writes bytes asks `is_shaped` first.
-pub fn in_range(kind: u64, fields: [u64; WIDTH], exceptions: &[u64]) -> Checked
+pub fn in_range(kind: u64, fields: [u64; WIDTH], exceptions: &[u64]) -> Result<(), OutOfRange>
     ensures { result ≡ checked kind fields exceptions.now }
 {
-    if !is_shaped(kind, fields, exceptions.len()) {
-        return Checked::Refused(2);
-    }
-    if !are_in_cells(kind as usize, fields) {
-        return Checked::Refused(2);
-    }
-    if !are_days(exceptions) {
-        return Checked::Refused(2);
-    }
-    if are_rising(exceptions) {
-        Checked::Passed
+    if is_shaped(kind, fields, exceptions.len())
+        && are_in_cells(kind as usize, fields)
+        && are_days(exceptions)
+        && are_rising(exceptions)
+    {
+        Ok(())
     } else {
-        Checked::Refused(2)
+        Err(OutOfRange)
     }
 }

@@ -2,60 +2,25 @@
 // that rest.
 ghost use Rattle.std.specs.Prelude.{◌≤◌, length};
 
-use fields::WIDTH;
-use records::{Answer, Reading};
+use records::{Malformed, Record};
 
-// Whether two rows of fields are the same.
-fn same_fields(one: [u64; WIDTH], other: [u64; WIDTH]) -> bool {
-    let mut i: usize = 0;
-    while i < WIDTH {
-        if one[i] != other[i] {
-            return false;
-        }
-        i += 1;
-    }
-    true
-}
+// What comes of reading a record.
+pub(crate) type Reading = Result<Record, Malformed>;
 
-// Whether a place of the whole file is a place of the part that starts `by` bytes on.
-fn is_moved(whole: usize, part: usize, by: usize) -> bool {
-    if whole < by {
-        return false;
-    }
-    whole - by == part
-}
-
-// Whether two answers are the same, but that one is of the part of a file that starts `by` bytes on.
-fn same_answers(whole: Answer, part: Answer, by: usize) -> bool {
-    match whole {
-        Answer::Next(next) => {
-            let Answer::Next(after) = part else {
-                return false;
-            };
-            is_moved(next, after, by)
-        }
-        Answer::Malformed(place) => {
-            let Answer::Malformed(start) = part else {
-                return false;
-            };
-            is_moved(place, start, by)
-        }
-    }
+// Whether a place of a file is that place of the part that starts `by` bytes on.
+fn is_same_place(whole: usize, part: usize, by: usize) -> bool {
+    whole.checked_sub(by) == Some(part)
 }
 
 // Whether two readings are of one record, but that one is of the part of a file that starts `by` bytes on.
 fn same_readings(whole: Reading, part: Reading, by: usize) -> bool {
-    if whole.kind != part.kind {
-        return false;
+    match (whole, part) {
+        (Ok(a), Ok(b)) => {
+            a.kind == b.kind && a.fields == b.fields && is_same_place(a.next, b.next, by)
+        }
+        (Err(a), Err(b)) => is_same_place(a.at, b.at, by),
+        _ => false,
     }
-    let one = whole.fields;
-    let other = part.fields;
-    if !same_fields(one, other) {
-        return false;
-    }
-    let answer = whole.answer;
-    let again = part.answer;
-    same_answers(answer, again, by)
 }
 
 // Whether the record at a place is also what the rest of the file from there begins with, and what a reader of that rest
@@ -63,8 +28,6 @@ fn same_readings(whole: Reading, part: Reading, by: usize) -> bool {
 pub(crate) fn reads_alike(bytes: &[u8], place: usize, reading: Reading) -> bool
     requires { place ≤ length bytes.now }
 {
-    if !same_readings(reading, records::read_rest(bytes, place), place) {
-        return false;
-    }
-    same_readings(reading, reader::first_record(&bytes[place..]), place)
+    same_readings(reading, records::read_rest(bytes, place), place)
+        && same_readings(reading, reader::first_record(&bytes[place..]), place)
 }

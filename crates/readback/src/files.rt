@@ -3,262 +3,161 @@
 ghost use Rattle.std.specs.Prelude.{◌≤◌, length};
 
 use crate::alike::reads_alike;
-use crate::lines::read_hex;
-use crate::rooms::writes_back;
-use crate::text::{Place, put_list, put_named, put_next, put_number, put_signed, put_word};
-use decoding::End;
-use fields::{Count, WIDTH};
-use ranges::Checked;
-use records::{Answer, Reading};
-use std::io::Write;
+use crate::lines::{Stop, read_hex};
+use crate::rooms::Record;
+use fields::WIDTH;
+use ranges::OutOfRange;
+use records::Malformed;
+use std::alloc::Global;
+use std::io::{self, Write};
 
 // Puts a space and a field of a kind, in the form that the field has.
-fn put_field<W: Write>(
-    output: &mut W,
-    text: &mut [u8; 65536],
-    at: usize,
-    kind: u64,
-    field: usize,
-    value: u64,
-) -> usize {
+fn put_field<W: Write>(output: &mut W, kind: u64, field: usize, value: u64) -> io::Result<()> {
     if fields::is_signed(kind, field) {
-        put_signed(output, text, at, folding::unfold(value))
+        let number = folding::unfold(value);
+        write!(output, " {number}")
     } else {
-        put_next(output, text, at, value)
+        write!(output, " {value}")
     }
 }
 
 // Puts the fields of a kind, each after a space.
-fn put_fields<W: Write>(
-    output: &mut W,
-    text: &mut [u8; 65536],
-    at: usize,
-    kind: u64,
-    values: [u64; WIDTH],
-) -> usize {
-    let Count::Of(count) = fields::count_of(kind) else {
-        return at;
+fn put_fields<W: Write>(output: &mut W, kind: u64, values: [u64; WIDTH]) -> io::Result<()> {
+    let Some(count) = fields::count_of(kind) else {
+        return Ok(());
     };
-    if WIDTH < count {
-        return at;
+    for (i, value) in values.iter().take(count).enumerate() {
+        put_field(output, kind, i, *value)?;
     }
-    let mut next = at;
-    let mut i: usize = 0;
-    while i < count {
-        next = put_field(output, &mut *text, next, kind, i, values[i]);
-        i += 1;
+    Ok(())
+}
+
+// Puts numbers, each after a space.
+fn put_list<W: Write>(output: &mut W, numbers: &[u64]) -> io::Result<()> {
+    for number in numbers {
+        write!(output, " {number}")?;
     }
-    next
+    Ok(())
 }
 
 // Puts `ok`, or the number of the refusal.
-fn put_checked<W: Write>(
-    output: &mut W,
-    text: &mut [u8; 65536],
-    at: usize,
-    checked: Checked,
-) -> usize {
+fn put_checked<W: Write>(output: &mut W, checked: Result<(), OutOfRange>) -> io::Result<()> {
     match checked {
-        Checked::Passed => put_word(output, text, at, b" ok"),
-        Checked::Refused(number) => put_next(output, text, at, number),
+        Ok(()) => write!(output, " ok"),
+        Err(refused) => {
+            let number = refused.number();
+            write!(output, " {number}")
+        }
     }
 }
 
-// Puts the record's length if it is written back as it was read, and needs all of that room.
-fn put_written<W: Write>(
-    output: &mut W,
-    text: &mut [u8; 65536],
-    at: usize,
-    record: &[u8],
-    kind: u64,
-    values: [u64; WIDTH],
-    exceptions: &[u64],
-) -> usize {
-    if !writes_back(record, kind, values, exceptions) {
-        return put_word(output, text, at, b" differs");
-    }
-    put_next(output, text, at, record.len() as u64)
-}
-
-// Puts the line of a record that was read from just these bytes.
-fn put_record<W: Write>(
-    output: &mut W,
-    text: &mut [u8; 65536],
-    at: usize,
-    record: &[u8],
-    kind: u64,
-    values: [u64; WIDTH],
-    exceptions: &[u64],
-) -> usize {
-    let named = put_number(output, &mut *text, at, kind);
-    let filled = put_fields(output, &mut *text, named, kind, values);
-    let listed = put_list(output, &mut *text, filled, exceptions);
-    let checked = put_checked(
+// Puts the line of a record that was read from just these bytes. It ends with the record's length if it is written back as it was read, and needs
+// all of that room.
+fn put_record<W: Write>(output: &mut W, record: Record<'_>, bytes: &[u8]) -> io::Result<()> {
+    let kind = record.kind;
+    write!(output, "{kind}")?;
+    put_fields(output, kind, record.fields)?;
+    put_list(output, record.exceptions)?;
+    put_checked(
         output,
-        &mut *text,
-        listed,
-        ranges::in_range(kind, values, exceptions),
-    );
-    let written = put_written(
-        output, &mut *text, checked, record, kind, values, exceptions,
-    );
-    put_word(output, text, written, b"\n")
+        ranges::in_range(kind, record.fields, record.exceptions),
+    )?;
+    if record.writes_back(bytes) {
+        let length = bytes.len();
+        writeln!(output, " {length}")
+    } else {
+        writeln!(output, " differs")
+    }
 }
 
 // Puts the line of a start, whose exceptions just fill the list lent and end where the record does.
 fn put_exceptions<W: Write>(
     output: &mut W,
-    text: &mut [u8; 65536],
-    at: usize,
     bytes: &[u8],
     from: usize,
-    end: usize,
-    reading: Reading,
+    read: records::Record,
     list: &mut [u64],
-) -> usize
-    requires { (from ≤ end) × (end ≤ length bytes.now) }
+) -> io::Result<()>
+    requires { (from ≤ read.next) × (read.next ≤ length bytes.now) }
 {
-    let End::Next(last) = decoding::read_numbers(bytes, reading.more, &mut *list) else {
-        return put_word(output, text, at, b"differs\n");
-    };
-    if last != end {
-        return put_word(output, text, at, b"differs\n");
+    match decoding::read_numbers(bytes, read.more, &mut *list) {
+        Some(last) if last == read.next => {
+            let fields = read.fields;
+            let record = Record {
+                kind: read.kind,
+                fields,
+                exceptions: list,
+            };
+            put_record(output, record, &bytes[from..read.next])
+        }
+        _ => writeln!(output, "differs"),
     }
-    let values = reading.fields;
-    put_record(
-        output,
-        text,
-        at,
-        &bytes[from..end],
-        reading.kind,
-        values,
-        list,
-    )
 }
 
 // Puts the line of a start, which announces at most 400 exceptions.
 fn put_start<W: Write>(
     output: &mut W,
-    text: &mut [u8; 65536],
-    at: usize,
     bytes: &[u8],
     from: usize,
-    end: usize,
-    reading: Reading,
-) -> usize
-    requires { (from ≤ end) × (end ≤ length bytes.now) }
+    read: records::Record,
+) -> io::Result<()>
+    requires { (from ≤ read.next) × (read.next ≤ length bytes.now) }
 {
-    let values = reading.fields;
-    let count = values[2] as usize;
-    if 400 < count {
-        return put_word(output, text, at, b"differs\n");
-    }
     let mut list = [0u64; 400];
-    put_exceptions(
-        output,
-        text,
-        at,
-        bytes,
-        from,
-        end,
-        reading,
-        &mut list[..count],
-    )
+    match list.get_mut(..read.fields[2] as usize) {
+        Some(announced) => put_exceptions(output, bytes, from, read, announced),
+        None => writeln!(output, "differs"),
+    }
 }
 
-// Puts the line of the record that was read from a place of the file to another.
+// Puts the line of the record that was read from a place of the file.
 fn put_reading<W: Write>(
     output: &mut W,
-    text: &mut [u8; 65536],
-    at: usize,
     bytes: &[u8],
     from: usize,
-    end: usize,
-    reading: Reading,
-) -> usize
-    requires { (from ≤ end) × (end ≤ length bytes.now) }
+    read: records::Record,
+) -> io::Result<()>
+    requires { (from ≤ read.next) × (read.next ≤ length bytes.now) }
 {
-    if reading.kind == 0 {
-        return put_start(output, text, at, bytes, from, end, reading);
+    if read.kind == 0 {
+        return put_start(output, bytes, from, read);
     }
-    let values = reading.fields;
-    let none = [0u64; 1];
-    put_record(
-        output,
-        text,
-        at,
-        &bytes[from..end],
-        reading.kind,
-        values,
-        &none[..0],
-    )
-}
-
-// Puts the line that ends a file at a record that is refused.
-fn put_bad<W: Write>(output: &mut W, text: &mut [u8; 65536], at: usize, place: usize) -> usize {
-    let placed = put_named(output, &mut *text, at, b"bad", place as u64);
-    put_word(output, text, placed, b"\n")
+    let fields = read.fields;
+    let record = Record {
+        kind: read.kind,
+        fields,
+        exceptions: &[],
+    };
+    put_record(output, record, &bytes[from..read.next])
 }
 
 // Puts the lines of a file's records, up to its end or the first that is refused.
-fn put_records<W: Write>(output: &mut W, text: &mut [u8; 65536], at: usize, bytes: &[u8]) -> usize {
-    let mut put = at;
+fn put_records<W: Write>(output: &mut W, bytes: &[u8]) -> io::Result<()> {
+    // No iterator counts this walk: each record says where the next one begins.
     let mut place: usize = 0;
     while place < bytes.len() {
         let reading = records::read_record(bytes, place);
         if !reads_alike(bytes, place, reading) {
-            return put_word(output, text, put, b"differs\n");
+            return writeln!(output, "differs");
         }
-        let answer = reading.answer;
-        match answer {
-            Answer::Malformed(bad) => {
-                return put_bad(output, text, put, bad);
+        match reading {
+            Err(Malformed { at }) => return writeln!(output, "bad {at}"),
+            Ok(read) if place < read.next && read.next <= bytes.len() => {
+                put_reading(output, bytes, place, read)?;
+                place = read.next;
             }
-            Answer::Next(next) => {
-                if next <= place {
-                    return put_word(output, text, put, b"differs\n");
-                }
-                if bytes.len() < next {
-                    return put_word(output, text, put, b"differs\n");
-                }
-                put = put_reading(output, &mut *text, put, bytes, place, next, reading);
-                place = next;
-            }
+            Ok(_) => return writeln!(output, "differs"),
         }
     }
-    put_word(output, text, put, b"end\n")
-}
-
-// Puts the lines of the file that the first bytes lent are.
-fn put_first<W: Write>(
-    output: &mut W,
-    text: &mut [u8; 65536],
-    at: usize,
-    bytes: &[u8; 8192],
-    count: usize,
-) -> usize
-    requires { count ≤ 8192 }
-{
-    let all: &[u8] = bytes;
-    put_records(output, text, at, &all[..count])
+    writeln!(output, "end")
 }
 
 // Puts the answer to a line of hex digits, an event file of at most 8,192 bytes.
-pub(crate) fn put_file<W: Write>(
-    output: &mut W,
-    text: &mut [u8; 65536],
-    at: usize,
-    line: &[u8],
-) -> Place {
+pub(crate) fn put_file<W: Write>(alloc: Global, output: &mut W, line: &[u8]) -> Result<(), Stop> {
     if 16384 < line.len() {
-        return Place::NoTest;
+        return Err(Stop::NoTest);
     }
-    if line.len() % 2 == 1 {
-        return Place::NoTest;
-    }
-    let mut bytes = [0u8; 8192];
-    if !read_hex(line, &mut bytes) {
-        return Place::NoTest;
-    }
-    Place::After(put_first(output, text, at, &bytes, line.len() / 2))
+    let bytes = read_hex(alloc, line)?;
+    put_records(output, bytes.as_slice())?;
+    Ok(())
 }

@@ -1,64 +1,69 @@
 // Lines: the bytes that hex digits stand for, and the numbers of a line.
-ghost use Rattle.std.specs.Prelude.{◌≤◌, length};
+ghost use Rattle.std.specs.Prelude.{◌<◌, IfOk};
 
-use scan::{Number, digits_end, number_in};
+use scan::number_in;
+use std::alloc::{AllocError, Global};
+use std::io;
 
-// The value of a hex digit, or 16 if the byte is none.
-fn hex_value(byte: u8) -> u8
-    ensures { result ≤ 16 }
-{
-    match byte {
-        b'0'..=b'9' => byte - b'0',
-        b'A'..=b'F' => byte - b'A' + 10,
-        b'a'..=b'f' => byte - b'a' + 10,
-        _ => 16,
+// Why a line is not answered: it is no test, or the system has no memory or does not write.
+#[derive(Drop)]
+pub(crate) enum Stop {
+    NoTest,
+    System(io::Error),
+}
+
+impl From<io::Error> for Stop {
+    fn from(error: io::Error) -> Stop {
+        Stop::System(error)
     }
 }
 
-// Reads hex digits, two to a byte, and answers whether all of them are digits.
-pub(crate) fn read_hex(digits: &[u8], bytes: &mut [u8; 8192]) -> bool
-    requires { length digits.now ≤ 16384 }
-{
-    let mut i: usize = 0;
-    while i < digits.len() / 2 {
-        let high = hex_value(digits[2 * i]);
-        let low = hex_value(digits[2 * i + 1]);
-        if 15 < high {
-            return false;
-        }
-        if 15 < low {
-            return false;
-        }
-        bytes[i] = 16 * high + low;
-        i += 1;
+impl From<AllocError> for Stop {
+    fn from(error: AllocError) -> Stop {
+        Stop::System(io::Error::from(error))
     }
-    true
 }
 
-// Reads numbers, each after one space, and answers how many there are, or 0 if the text is something else.
-pub(crate) fn read_numbers(text: &[u8], numbers: &mut [u64; 465]) -> usize
-    ensures { result ≤ 465 }
+// The value of a hex digit.
+fn hex_value(byte: u8) -> Result<u32, Stop>
+    ensures { IfOk result (λ value. value < 16) }
 {
-    let mut count: usize = 0;
-    let mut at: usize = 0;
-    while at < text.len() {
-        if text[at] != b' ' {
-            return 0;
-        }
-        let first = at + 1;
-        let end = digits_end(text, first);
-        if end == first {
-            return 0;
-        }
-        let Number::Of(number) = number_in(&text[first..end]) else {
-            return 0;
-        };
-        if count == 465 {
-            return 0;
-        }
-        numbers[count] = number;
-        count += 1;
-        at = end;
+    char::from(byte).to_digit(16).ok_or(Stop::NoTest)
+}
+
+// The byte that two hex digits stand for.
+fn hex_byte(digits: &[u8]) -> Result<u8, Stop> {
+    let [high, low] = digits else {
+        return Err(Stop::NoTest);
+    };
+    let value = 16 * hex_value(*high)? + hex_value(*low)?;
+    Ok(value as u8)
+}
+
+// The bytes that hex digits stand for, two to a byte.
+pub(crate) fn read_hex(alloc: Global, digits: &[u8]) -> Result<Vec<u8>, Stop> {
+    digits
+        .chunks(2)
+        .map(|pair| hex_byte(pair))
+        .try_collect(alloc)
+}
+
+// The number that a word is.
+fn read_number(word: &[u8]) -> Result<u64, Stop> {
+    if word.is_empty() {
+        return Err(Stop::NoTest);
     }
-    count
+    match number_in(word) {
+        Some(number) => Ok(number),
+        None => Err(Stop::NoTest),
+    }
+}
+
+// The numbers of a text, each after one space.
+pub(crate) fn read_numbers(alloc: Global, text: &[u8]) -> Result<Vec<u64>, Stop> {
+    let words = text.strip_prefix(b" ").ok_or(Stop::NoTest)?;
+    words
+        .split(|byte| *byte == b' ')
+        .map(|word| read_number(word))
+        .try_collect(alloc)
 }

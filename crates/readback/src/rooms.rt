@@ -1,192 +1,103 @@
 // Rooms: records written into lent room, each byte of which is AA at first.
-ghost use Rattle.std.specs.Prelude.{◌≤◌, length};
-
-use crate::lines::read_numbers;
-use crate::text::{Place, put_hex, put_named, put_word};
+use crate::lines::{Stop, read_numbers};
 use fields::WIDTH;
-use records::Written;
-use std::io::Write;
+use records::{Unwritten, write_record};
+use std::alloc::Global;
+use std::io::{self, Write};
 
-// Whether two runs of bytes are the same.
-fn are_same(a: &[u8], b: &[u8]) -> bool {
-    if a.len() != b.len() {
-        return false;
+// What a record says.
+#[derive(Clone, Copy)]
+pub(crate) struct Record<'a> {
+    pub kind: u64,
+    pub fields: [u64; WIDTH],
+    pub exceptions: &'a [u64],
+}
+
+impl Record<'_> {
+    // Writes the record into a room.
+    fn write(self, room: &mut [u8]) -> Result<usize, Unwritten> {
+        write_record(room, self.kind, self.fields, self.exceptions)
     }
-    let mut i: usize = 0;
-    while i < a.len() {
-        if a[i] != b[i] {
+
+    // Whether the record is written into a room of just its length, and as it was read.
+    fn fills_room(self, room: &mut [u8], bytes: &[u8]) -> bool {
+        match self.write(&mut *room) {
+            Ok(length) => length == bytes.len() && *room == *bytes,
+            Err(_) => false,
+        }
+    }
+
+    // Whether the record is refused a room, which stays as it was.
+    fn keeps_room(self, room: &mut [u8]) -> bool {
+        match self.write(&mut *room) {
+            Err(Unwritten::NoRoom) => room.iter().all(|byte| *byte == 0xAA),
+            _ => false,
+        }
+    }
+
+    // Whether the record is written back as it was read, and needs just that much room.
+    pub(crate) fn writes_back(self, bytes: &[u8]) -> bool {
+        let length = bytes.len();
+        if length == 0 || 8192 < length {
             return false;
         }
-        i += 1;
+        let mut short = [0xAAu8; 8192];
+        let mut exact = [0xAAu8; 8192];
+        self.keeps_room(&mut short[..length - 1]) && self.fills_room(&mut exact[..length], bytes)
     }
-    true
-}
-
-// Whether a room is as it was at first.
-fn is_untouched(room: &[u8]) -> bool {
-    let mut i: usize = 0;
-    while i < room.len() {
-        if room[i] != 0xAA {
-            return false;
-        }
-        i += 1;
-    }
-    true
-}
-
-// Whether a record is written into a room of just its length, and as it was read.
-fn fills_room(
-    room: &mut [u8],
-    record: &[u8],
-    kind: u64,
-    values: [u64; WIDTH],
-    exceptions: &[u64],
-) -> bool {
-    let answer = records::write_record(&mut *room, kind, values, exceptions);
-    let Written::Done(length) = answer else {
-        return false;
-    };
-    if length != record.len() {
-        return false;
-    }
-    are_same(room, record)
-}
-
-// Whether a record is refused a room, which stays as it was.
-fn keeps_room(room: &mut [u8], kind: u64, values: [u64; WIDTH], exceptions: &[u64]) -> bool {
-    let answer = records::write_record(&mut *room, kind, values, exceptions);
-    let Written::NoRoom = answer else {
-        return false;
-    };
-    is_untouched(room)
-}
-
-// Whether a record is written back as it was read, and needs just that much room.
-pub(crate) fn writes_back(
-    record: &[u8],
-    kind: u64,
-    values: [u64; WIDTH],
-    exceptions: &[u64],
-) -> bool {
-    let length = record.len();
-    if length == 0 {
-        return false;
-    }
-    if 8192 < length {
-        return false;
-    }
-    let shorter = length - 1;
-    let mut short = [0xAAu8; 8192];
-    if !keeps_room(&mut short[..shorter], kind, values, exceptions) {
-        return false;
-    }
-    let mut exact = [0xAAu8; 8192];
-    fills_room(&mut exact[..length], record, kind, values, exceptions)
 }
 
 // Puts what writing answered.
-fn put_written<W: Write>(
-    output: &mut W,
-    text: &mut [u8; 65536],
-    at: usize,
-    written: Written,
-) -> usize {
+fn put_written<W: Write>(output: &mut W, written: Result<usize, Unwritten>) -> io::Result<()> {
     match written {
-        Written::Done(length) => put_named(output, text, at, b"done", length as u64),
-        Written::Malformed(place) => put_named(output, text, at, b"no 1", place as u64),
-        Written::NoRoom => put_word(output, text, at, b"no 16"),
+        Ok(length) => write!(output, "done {length}"),
+        Err(Unwritten::Malformed(place)) => write!(output, "no 1 {place}"),
+        Err(Unwritten::NoRoom) => write!(output, "no 16"),
     }
 }
 
 // Puts a space and a whole room, or nothing for an empty one, and ends the line.
-fn put_room<W: Write>(output: &mut W, text: &mut [u8; 65536], at: usize, room: &[u8]) -> usize {
-    if room.len() == 0 {
-        return put_word(output, text, at, b"\n");
+fn put_room<W: Write>(output: &mut W, room: &[u8]) -> io::Result<()> {
+    if !room.is_empty() {
+        write!(output, " ")?;
     }
-    let parted = put_word(output, &mut *text, at, b" ");
-    let shown = put_hex(output, &mut *text, parted, room);
-    put_word(output, text, shown, b"\n")
-}
-
-// The thirteen fields that stand after the room and the kind.
-fn fields_in(numbers: &[u64]) -> [u64; WIDTH]
-    requires { 15 ≤ length numbers.now }
-{
-    let mut values = [0u64; WIDTH];
-    let mut i: usize = 0;
-    while i < WIDTH {
-        values[i] = numbers[i + 2];
-        i += 1;
+    for byte in room {
+        write!(output, "{byte:02X}")?;
     }
-    values
+    writeln!(output)
 }
 
 // Puts what comes of writing a record into a room, and the room afterwards.
-fn put_room_after<W: Write>(
-    output: &mut W,
-    text: &mut [u8; 65536],
-    at: usize,
-    room: &mut [u8],
-    kind: u64,
-    values: [u64; WIDTH],
-    exceptions: &[u64],
-) -> usize {
-    let written = records::write_record(&mut *room, kind, values, exceptions);
-    let answered = put_written(output, &mut *text, at, written);
-    put_room(output, text, answered, room)
+fn put_attempt<W: Write>(output: &mut W, record: Record<'_>, room: &mut [u8]) -> io::Result<()> {
+    let written = record.write(&mut *room);
+    put_written(output, written)?;
+    put_room(output, room)
 }
 
-// Puts the answer to numbers that stand for a room's size, a kind, its fields and exceptions.
-fn put_attempt<W: Write>(
-    output: &mut W,
-    text: &mut [u8; 65536],
-    at: usize,
-    numbers: &[u64],
-) -> Place
-    requires { 15 ≤ length numbers.now }
-{
-    if 4096 < numbers[0] {
-        return Place::NoTest;
-    }
-    let size = numbers[0] as usize;
-    let values = fields_in(numbers);
-    let mut room = [0xAAu8; 4096];
-    Place::After(put_room_after(
-        output,
-        text,
-        at,
-        &mut room[..size],
-        numbers[1],
-        values,
-        &numbers[15..],
-    ))
-}
-
-// Puts the answer to the first numbers lent, if they are as many as a record has.
-fn put_first<W: Write>(
-    output: &mut W,
-    text: &mut [u8; 65536],
-    at: usize,
-    numbers: &[u64; 465],
-    count: usize,
-) -> Place
-    requires { count ≤ 465 }
-{
-    if count < 15 {
-        return Place::NoTest;
-    }
-    let all: &[u64] = numbers;
-    put_attempt(output, text, at, &all[..count])
-}
-
-// Puts the answer to what stands after the `w` of a line: a record to be written, and how much room there is.
+// Puts the answer to what stands after the `w` of a line: how much room there is, and a record to be written, its kind,
+// its fields and its exceptions.
 pub(crate) fn put_writing<W: Write>(
+    alloc: Global,
     output: &mut W,
-    text: &mut [u8; 65536],
-    at: usize,
     rest: &[u8],
-) -> Place {
-    let mut numbers = [0u64; 465];
-    let count = read_numbers(rest, &mut numbers);
-    put_first(output, text, at, &numbers, count)
+) -> Result<(), Stop> {
+    let numbers = read_numbers(alloc, rest)?;
+    let [size, kind, more @ ..] = numbers.as_slice() else {
+        return Err(Stop::NoTest);
+    };
+    let Some((listed, exceptions)) = more.split_first_chunk::<WIDTH>() else {
+        return Err(Stop::NoTest);
+    };
+    if 4096 < *size || 450 < exceptions.len() {
+        return Err(Stop::NoTest);
+    }
+    let fields = *listed;
+    let record = Record {
+        kind: *kind,
+        fields,
+        exceptions,
+    };
+    let mut room = [0xAAu8; 4096];
+    put_attempt(output, record, &mut room[..*size as usize])?;
+    Ok(())
 }

@@ -11,13 +11,13 @@ use Rattle.records.specs.Outcomes.{Outcome, done, refused_at, refused, outcome_o
 
 -- ---- reading: refused 1, at the place of the first byte, exactly where no record stands
 module _ (s : List ℕ) (at : ℕ) where
-  pub unread-refused : reading (drop at s) ≡ unread → outcome_of (reading_at s at).answer ≡ refused_at 1 at
+  pub unread-refused : reading (drop at s) ≡ unread → outcome_of (reading_at s at) ≡ refused_at 1 at
   unread-refused e = rw e
 
-  pub refused-unread : (number place : ℕ) → outcome_of (reading_at s at).answer ≡ refused_at number place → (reading (drop at s) ≡ unread) × (number ≡ 1) × (place ≡ at)
+  pub refused-unread : (number place : ℕ) → outcome_of (reading_at s at) ≡ refused_at number place → (reading (drop at s) ≡ unread) × (number ≡ 1) × (place ≡ at)
   refused-unread number place e = go (reading (drop at s)) refl e
     where
-      go : (g : Parsed) → reading (drop at s) ≡ g → outcome_of (placed s at g).answer ≡ refused_at number place → (reading (drop at s) ≡ unread) × (number ≡ 1) × (place ≡ at)
+      go : (g : Parsed) → reading (drop at s) ≡ g → outcome_of (placed s at g) ≡ refused_at number place → (reading (drop at s) ≡ unread) × (number ≡ 1) × (place ≡ at)
       go unread h q = (h, cc, cc)
       go (parsed r rest) h q = let z : ◌≡◌ {A = ℕ} 0 1 = cc in absurd (omega arith)
 

@@ -1,23 +1,23 @@
 -- The steps by which a record is read, from place to place, and what the answer's places mean.
-use Rattle.std.specs.Prelude.{◌≡◌, Bool, List, [], ◌∷◌, ◌++◌, ℕ, zero, suc, ◌+◌, ◌-◌, ◌≤◌, ◌<◌, ◌^◌, ltb, get_or, set, replicate}
+use Rattle.std.specs.Prelude.{◌≡◌, Bool, List, [], ◌∷◌, ◌++◌, ℕ, zero, suc, ◌+◌, ◌-◌, ◌≤◌, ◌<◌, ◌^◌, ltb, get_or, replicate}
 use Rattle.std.proofs.Math.Path.{refl, sym, ap}
 use Rattle.std.proofs.Common.{ap₂, ◌∙◌, subst, append_assoc, length-drop, drop_of_length-le, drop-drop, lt-ltb, le-ltb}
 use Rattle.std.proofs.Math.Bool.{true, false, cond}
 use native.Mathlib.Omega.{arith}
 use Rattle.std.proofs.Math.ListN.{length, drop, length-append}
-use Rattle.std.proofs.Math.Seq.{drop-append_seam, append_snoc}
-use Rattle.std.proofs.lemmas.List.{set_at}
+use Rattle.std.proofs.Math.Seq.{drop-append_seam}
 use Rattle.numbers.specs.Below.{Small, below-drop, below_right}
 use Rattle.numbers.specs.Seven.{none, unbounded, encode, decode}
 use Rattle.numbers.specs.SevenLaws.{groups-some}
-use Rattle.numbers.specs.Several.{Some, nothing, some, on_some, write_of, many}
+use Rattle.numbers.specs.Several.{Numbers, nothing, some, on_some, write_of, many}
 use Rattle.numbers.specs.SeveralLaws.{many-write}
 use Rattle.decoding.specs.Place.{ended}
 use Rattle.decoding.specs.PlaceLaws.{Moved, moved-size, end-here}
 use Rattle.fields.specs.Fields.{known, count, announced}
-use Rattle.records.specs.declared.Answer.{Answer}
-use Rattle.records.specs.declared.Answer.TheVariants.{Next, Malformed}
-use Rattle.records.specs.declared.Reading.{Reading}
+use Rattle.std.specs.Prelude.{None, Some, Result, Ok, Err}
+use Rattle.records.specs.declared.Fields.{Fields}
+use Rattle.records.specs.declared.Malformed.{Malformed}
+use Rattle.records.specs.declared.Record.{Record}
 use Rattle.records.specs.Records.{entry, writing, Parsed, unread, parsed, reading}
 use Rattle.records.specs.RecordLaws.{Whole, reading-only, writing-rest}
 use Rattle.records.specs.Reading.{padded, malformed_at, record_at, placed, reading_at}
@@ -38,15 +38,17 @@ padded-at (x ∷ l) n (suc i) = padded-at l n i
 pub announced-padded : (kind : ℕ) (fields : List ℕ) → announced kind (padded fields) ≡ announced kind fields
 announced-padded kind fields = rw (padded-at fields (13 - length fields) 2)
 
--- a number stored after the others
-pub store : (a : List ℕ) (i x : ℕ) → i < 13 → length a ≡ i → set (a ++ replicate (13 - i) 0) i x ≡ (a ++ (x ∷ [])) ++ replicate (13 - (i + 1)) 0
-store a i x h e =
-    let z : 13 - i ≡ suc (13 - (i + 1)) = omega arith in
-    rw (z, set_at a 0 (replicate (13 - (i + 1)) 0) x i e) (sym (append_snoc a x (replicate (13 - (i + 1)) 0)))
+pub filled_none : (s : List ℕ) (g : Numbers) → filled s g ≡ None → g ≡ nothing
+filled_none s nothing e = refl
+filled_none s (some l rest) e = cc
 
-pub filled-end : (s : List ℕ) (g : Some) → (filled s g).end ≡ ended s g
-filled-end s nothing = refl
-filled-end s (some l rest) = refl
+pub filled_end : (s : List ℕ) (g : Numbers) (read : Fields) → filled s g ≡ Some read → ended s g ≡ Some read.end
+filled_end s nothing read e = cc
+filled_end s (some l rest) read e = cc
+
+pub filled_row : (s : List ℕ) (g : Numbers) (read : Fields) (l rest : List ℕ) → filled s g ≡ Some read → g ≡ some l rest → read.values ≡ padded l
+filled_row s nothing read l rest e h = cc
+filled_row s (some m r) read l rest e h = cc
 
 -- ---- the steps
 module _ (s : List ℕ) (at kind start : ℕ) where
@@ -70,7 +72,7 @@ module _ (s : List ℕ) (at kind start : ℕ) where
       let u : at + length (encode kind ++ write_of fields) ≡ more = ap (λ z. at + z) (length-append (encode kind) (write_of fields)) ∙ omega arith in
       rw (m.is, h, e, announced-padded kind fields) (go (ltb 400 (announced kind fields)) (many (announced kind fields) (drop more s)) u)
     where
-      go : (t : Bool) (g : Some) → at + length (encode kind ++ write_of fields) ≡ more
+      go : (t : Bool) (g : Numbers) → at + length (encode kind ++ write_of fields) ≡ more
           → placed s at (cond t unread (on_some g unread λ exceptions rest. parsed (entry kind fields exceptions) rest))
           ≡ cond t (malformed_at at) (on_some g (malformed_at at) λ exceptions rest. record_at (length s - length rest) kind (padded fields) more)
       go true g u = refl
@@ -115,10 +117,6 @@ pub record Stands (s : List ℕ) (at next kind : ℕ) (fields : List ℕ) (place
   pub row : fields ≡ padded own
   pub lies : Lies s at next kind own exceptions place
 
-abbrev next_of : Answer → ℕ
-next_of (Next next) = next
-next_of (Malformed place) = 0
-
 module _ (s : List ℕ) (at : ℕ) (small : Small s) where
   pub lies : (k : ℕ) (f x rest : List ℕ) → reading (drop at s) ≡ parsed (entry k f x) rest → Lies s at (length s - length rest) k f x (at + length (write_of (k ∷ f)))
   unfolding write_of
@@ -146,18 +144,17 @@ module _ (s : List ℕ) (at : ℕ) (small : Small s) where
   reads_on next kind fields place e = go (reading (drop at s)) refl e
     where
       go : (g : Parsed) → reading (drop at s) ≡ g → placed s at g ≡ record_at next kind fields place → Stands s at next kind fields place
-      go unread h q = let a : Malformed at ≡ Next next = ap (λ r. r.answer) q in let z : ◌≡◌ {A = ℕ} 0 1 = cc in absurd (omega arith)
+      go unread h q = let z : ◌≡◌ {A = ℕ} 0 1 = cc in absurd (omega arith)
       go (parsed e rest) h q =
-          subst (λ r. Stands s at (next_of r.answer) r.kind r.fields r.more) q
+          let same : ◌≡◌ {A = Record} (record { kind = e.kind; fields = padded e.fields; more = at + length (write_of (e.kind ∷ e.fields)); next = length s - length rest })
+          (record { kind = kind; fields = fields; more = place; next = next }) = cc in
+          subst (λ r. Stands s at r.next r.kind r.fields r.more) same
           (record { own = e.fields; exceptions = e.exceptions; row = refl; lies = lies e.kind e.fields e.exceptions rest h })
 
 -- ---- the places of a part, as places of the whole
-abbrev shifted_by : ℕ → Reading → Answer → Reading
-shifted_by at r (Next next) = record_at (at + next) r.kind r.fields (at + r.more)
-shifted_by at r (Malformed place) = malformed_at (at + place)
-
-abbrev pub shifted : ℕ → Reading → Reading
-shifted at r = shifted_by at r r.answer
+abbrev pub shifted : ℕ → Result Record Malformed → Result Record Malformed
+shifted at (Ok r) = record_at (at + r.next) r.kind r.fields (at + r.more)
+shifted at (Err bad) = malformed_at (at + bad.at)
 
 pub reading-part : (s : List ℕ) (at : ℕ) → Small s → at ≤ length s → reading_at s at ≡ shifted at (reading_at (drop at s) 0)
 reading-part s at small h = go (reading (drop at s)) refl

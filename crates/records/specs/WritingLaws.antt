@@ -1,5 +1,5 @@
 -- What was written reads back the same, what reads is what is written, and what the writer refuses no reader takes.
-use Rattle.std.specs.Prelude.{◌≡◌, refl, Bool, true, false, List, [], ◌∷◌, ◌++◌, ℕ, zero, suc, ◌+◌, ◌-◌, ◌≤◌, ◌<◌, length, take, drop, replicate}
+use Rattle.std.specs.Prelude.{◌≡◌, refl, Bool, true, false, List, [], ◌∷◌, ◌++◌, ℕ, zero, suc, ◌+◌, ◌-◌, ◌≤◌, ◌<◌, length, take, drop, replicate, Ok, Err}
 use Rattle.std.proofs.Common.{sym, ap, ap₂, ◌∙◌, subst₂, append_assoc, zero-add, arith, length-append, length-drop, take-append-drop, take_at, drop_at, get_or-take, length-take-le}
 use Rattle.std.proofs.Math.Bool.{and-eq-true_iff}
 use Rattle.std.proofs.Math.Decide.{ℕ_discrete, dec_lt}
@@ -14,7 +14,7 @@ use Rattle.encoding.specs.Sizes.{size-most}
 use Rattle.encoding.specs.Put.{put, put-append}
 use Rattle.fields.specs.Fields.{kinds, count, announced, is_zero, shaped}
 use Rattle.fields.specs.FieldLaws.{is_known, counts-most, shape-tells}
-use Rattle.records.specs.declared.Written.TheVariants.{Done, Malformed, NoRoom}
+use Rattle.records.specs.declared.Unwritten.TheVariants.{Malformed, NoRoom}
 use Rattle.records.specs.Records.{Entry, entry, writing, reading, parsed}
 use Rattle.records.specs.RecordLaws.{Whole, writing-parts, writing-small, reading-writing}
 use Rattle.records.specs.Reading.{padded, record_at, reading_at}
@@ -103,16 +103,16 @@ module _ (e : Entry) (w : Whole e) where
 
 -- ---- the writer's answers
 module _ (room : List ℕ) (kind : ℕ) (cells x : List ℕ) where
-  pub not-shaped : shaped kind cells (length x) ≡ false → written_in room kind cells x ≡ out (Malformed 0) room
+  pub not-shaped : shaped kind cells (length x) ≡ false → written_in room kind cells x ≡ out (Err (Malformed 0)) room
   unfolding written_in
   not-shaped t = rw t
 
   module _ (t : shaped kind cells (length x) ≡ true) (n : ℕ) (e : n ≡ count kind) where
-    pub no_room : length room < length (writing (entry kind (take n cells) x)) → written_in room kind cells x ≡ out NoRoom room
+    pub no_room : length room < length (writing (entry kind (take n cells) x)) → written_in room kind cells x ≡ out (Err NoRoom) room
     unfolding written_in
     no_room q = rw (t, ← e, lt-ltb (length room) (length (writing (entry kind (take n cells) x))) q)
 
-    pub done : let w = writing (entry kind (take n cells) x) in length w ≤ length room → written_in room kind cells x ≡ out (Done (length w)) (w ++ drop (length w) room)
+    pub done : let w = writing (entry kind (take n cells) x) in length w ≤ length room → written_in room kind cells x ≡ out (Ok (length w)) (w ++ drop (length w) room)
     unfolding written_in
     done q = rw (t, ← e, le-ltb (length room) (length (writing (entry kind (take n cells) x))) q)
 
@@ -144,38 +144,38 @@ module _ (room : List ℕ) (kind : ℕ) (cells x : List ℕ) (thirteen : length 
         inside = h;
       }
 
-  pub written-reads : (n : ℕ) (after : List ℕ) → written_in room kind cells x ≡ out (Done n) after → Back room after kind cells x n
+  pub written-reads : (n : ℕ) (after : List ℕ) → written_in room kind cells x ≡ out (Ok n) after → Back room after kind cells x n
   written-reads n after e = go (shaped kind cells (length x)) refl
     where
       go : (t : Bool) → shaped kind cells (length x) ≡ t → Back room after kind cells x n
       go false t =
-          let a : Malformed 0 ≡ Done n = ap (λ o. o.answer) (sym (not-shaped room kind cells x t) ∙ e) in
+          let a : Err (Malformed 0) ≡ Ok n = ap (λ o. o.answer) (sym (not-shaped room kind cells x t) ∙ e) in
           let z : ◌≡◌ {A = ℕ} 0 1 = cc in
           absurd (omega arith)
       go true t = fits (dec_lt (length room) (length bytes))
         where
           fits : Dec (length room < length bytes) → Back room after kind cells x n
           fits (yes p) =
-              let a : NoRoom ≡ Done n = ap (λ o. o.answer) (sym (no_room room kind cells x t (count kind) refl p) ∙ e) in
+              let a : Err NoRoom ≡ Ok n = ap (λ o. o.answer) (sym (no_room room kind cells x t (count kind) refl p) ∙ e) in
               let z : ◌≡◌ {A = ℕ} 0 1 = cc in
               absurd (omega arith)
           fits (no p) =
               let h : length bytes ≤ length room = omega arith in
-              let q : out (Done (length bytes)) (bytes ++ left) ≡ out (Done n) after = sym (done room kind cells x t (count kind) refl h) ∙ e in
-              let a : Done (length bytes) ≡ Done n = ap (λ o. o.answer) q in
+              let q : out (Ok (length bytes)) (bytes ++ left) ≡ out (Ok n) after = sym (done room kind cells x t (count kind) refl h) ∙ e in
+              let a : Ok (length bytes) ≡ Ok n = ap (λ o. o.answer) q in
               let en : length bytes ≡ n = cc in
               let er : bytes ++ left ≡ after = ap (λ o. o.room) q in
               subst₂ (λ (r : List ℕ) (k : ℕ). Back room r kind cells x k) er en (back t h)
 
 -- ---- what reads is what is written
 written-again : (room : List ℕ) (e : Entry) (n : ℕ) → Whole e → length (writing e) ≡ n → n ≤ length room
-    → written_in room e.kind (padded e.fields) e.exceptions ≡ out (Done n) (writing e ++ drop n room)
+    → written_in room e.kind (padded e.fields) e.exceptions ≡ out (Ok n) (writing e ++ drop n room)
 written-again room e n w l h =
     let o : entry_of e.kind (padded e.fields) e.exceptions ≡ e = row-own e w in
     let k : length (writing (entry_of e.kind (padded e.fields) e.exceptions)) ≤ length room = omega (arith, ap (λ y. length (writing y)) o) in
     done room e.kind (padded e.fields) e.exceptions (row-shaped e w) (count e.kind) refl k
-    ∙ ap (λ y. out (Done (length (writing y))) (writing y ++ drop (length (writing y)) room)) o
-    ∙ ap (λ k. out (Done k) (writing e ++ drop k room)) l
+    ∙ ap (λ y. out (Ok (length (writing y))) (writing y ++ drop (length (writing y)) room)) o
+    ∙ ap (λ k. out (Ok k) (writing e ++ drop k room)) l
 
 module _ (s : List ℕ) (at next kind : ℕ) (cells : List ℕ) (place : ℕ) (small : Small s) (e : reading_at s at ≡ record_at next kind cells place) where
   abbrev found : Stands s at next kind cells place
@@ -197,8 +197,8 @@ module _ (s : List ℕ) (at next kind : ℕ) (cells : List ℕ) (place : ℕ) (s
   reads-shaped = ap (λ c. shaped kind c (length found.exceptions)) found.row ∙ row-shaped its found.lies.whole
 
   pub reads-written : (room : List ℕ) → next - at ≤ length room
-      → written_in room kind cells found.exceptions ≡ out (Done (next - at)) (take (next - at) (drop at s) ++ drop (next - at) room)
+      → written_in room kind cells found.exceptions ≡ out (Ok (next - at)) (take (next - at) (drop at s) ++ drop (next - at) room)
   reads-written room h =
       ap (λ c. written_in room kind c found.exceptions) found.row
       ∙ written-again room its (next - at) found.lies.whole its-long h
-      ∙ ap (λ b. out (Done (next - at)) (b ++ drop (next - at) room)) its-bytes
+      ∙ ap (λ b. out (Ok (next - at)) (b ++ drop (next - at) room)) its-bytes

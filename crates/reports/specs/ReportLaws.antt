@@ -1,13 +1,11 @@
 -- What the lowest number of a list that is not below another is, and how it is found place by place.
-use Rattle.std.specs.Prelude.{◌≡◌, refl, true, List, [], ◌∷◌, ℕ, suc, ◌≤◌, ◌<◌, ltb, drop}
+use Rattle.std.specs.Prelude.{◌≡◌, refl, true, List, [], ◌∷◌, ℕ, suc, ◌≤◌, ◌<◌, ltb, drop, Option, Some, None}
 use Rattle.std.proofs.Math.Path.{ap}
 use Rattle.std.proofs.Common.{◌∙◌, arith, ltb-true, ltb-false, drop_of_length-le, drop-cons}
 use Rattle.lists.specs.Has.{has}
 use Rattle.lists.specs.HasLaws.{clash, has_first, has-later, has-each}
 use Rattle.lists.specs.Keep.{cond-keeps}
 use Rattle.lists.specs.Tabulate.{tab, tab-length, tab-at}
-use Rattle.reports.specs.declared.Lowest.{Lowest}
-use Rattle.reports.specs.declared.Lowest.TheVariants.{Is, None}
 use Rattle.reports.specs.Reports.{lower_from, lowest_from}
 
 -- it is one of the list, and none of the list lies between the two; where there is none, all are below
@@ -16,8 +14,8 @@ pub record LowestIs (from : ℕ) (ns : List ℕ) (k : ℕ) : Type 0 where
   pub reached : from ≤ k
   pub lowest : (n : ℕ) → has n ns ≡ true → from ≤ n → k ≤ n
 
-abbrev pub Pinned : ℕ → List ℕ → Lowest → Type 0
-Pinned from ns (Is k) = LowestIs from ns k
+abbrev pub Pinned : ℕ → List ℕ → Option ℕ → Type 0
+Pinned from ns (Some k) = LowestIs from ns k
 Pinned from ns None = (n : ℕ) → has n ns ≡ true → n < from
 
 module _ (from n : ℕ) (ns : List ℕ) where
@@ -32,13 +30,13 @@ module _ (from n : ℕ) (ns : List ℕ) where
     lowest = has-each (λ j. from ≤ j → k ≤ j) n ns f h.lowest;
   }
 
-  pinned-next : (found : Lowest) → Pinned from ns found → Pinned from (n ∷ ns) (lower_from from n found)
-  pinned-next None h = cond-keeps (Pinned from (n ∷ ns)) (ltb n from) None (Is n)
+  pinned-next : (found : Option ℕ) → Pinned from ns found → Pinned from (n ∷ ns) (lower_from from n found)
+  pinned-next None h = cond-keeps (Pinned from (n ∷ ns)) (ltb n from) None (Some n)
       (λ e. has-each (λ k. k < from) n ns (ltb-true n from e) h)
       (λ e. first-lowest (ltb-false n from e) (λ k t q. omega (arith, h k t)))
-  pinned-next (Is k) h = cond-keeps (Pinned from (n ∷ ns)) (ltb n from) (Is k) _
+  pinned-next (Some k) h = cond-keeps (Pinned from (n ∷ ns)) (ltb n from) (Some k) _
       (λ e. later-lowest k h (λ q. omega (arith, ltb-true n from e)))
-      (λ e. cond-keeps (Pinned from (n ∷ ns)) (ltb k n) (Is k) (Is n)
+      (λ e. cond-keeps (Pinned from (n ∷ ns)) (ltb k n) (Some k) (Some n)
       (λ d. later-lowest k h (λ q. omega (arith, ltb-true k n d)))
       (λ d. first-lowest (ltb-false n from e) (λ j t q. omega (arith, ltb-false k n d, h.lowest j t q))))
 

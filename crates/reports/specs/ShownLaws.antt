@@ -1,11 +1,10 @@
 -- What a sound memory's rows show is what its book shows.
-use Rattle.std.specs.Prelude.{◌≡◌, refl, List, ℕ, suc, ◌-◌, ◌≤◌, ◌<◌, ℤ, length}
+use Rattle.std.specs.Prelude.{◌≡◌, refl, List, ℕ, suc, ◌-◌, ◌≤◌, ◌<◌, ℤ, length, Some, None}
 use Rattle.std.proofs.Common.{sym, ap, ◌∙◌, subst, arith}
 use Rattle.lists.specs.HasLaws.{when_true, when_false}
 use Rattle.lists.specs.Keyed.{found_at, found_none}
 use Rattle.lists.specs.Seek.{seek}
 use Rattle.lists.specs.Tabulate.{tab, tab-is}
-use Rattle.lists.specs.declared.Found.TheVariants as found
 use Rattle.rates.specs.declared.Rule.{Rule}
 use Rattle.rates.specs.declared.Rule.TheVariants.{Final}
 use Rattle.rates.specs.declared.Settled.{Settled}
@@ -21,8 +20,6 @@ use Rattle.standing.specs.Made.{Sound}
 use Rattle.standing.specs.StandingLaws.{settled_back, sound-kept, sound-holds}
 use Rattle.standing.specs.MemberLaws.{member-row, settled-row, outcome-search, member-at, member-none, member-account}
 use Rattle.standing.specs.SoundLaws.{sound-shaped, sound-header}
-use Rattle.reports.specs.declared.Rated.TheVariants.{At, NotListed}
-use Rattle.reports.specs.declared.Billed.TheVariants.{With, Unknown}
 use Rattle.reports.specs.Reports.{rated_in, bill_at, billed_in}
 
 -- ---- a row's parts
@@ -49,30 +46,30 @@ module _ {c : List ℕ} {m : List ℤ} (s : Sound c m) where
   sound-settled = subst (λ (h : Header). h.settled ≤ 6) (sym (sound-header s)) g.keys.few
 
   -- ---- a code's outcome
-  pub rated-none : (k : ℕ) → seek (settled_code_at c) k (header_at c).settled 0 ≡ found.Nothing → rated_in (view c m) k ≡ NotListed
+  pub rated-none : (k : ℕ) → seek (settled_code_at c) k (header_at c).settled 0 ≡ None → rated_in (view c m) k ≡ None
   rated-none k e = when_false _ _ (found_none b.results.codes k (sym (outcome-search g (sound-holds s) k) ∙ e))
 
-  pub rated-at : (k i : ℕ) → seek (settled_code_at c) k (header_at c).settled 0 ≡ found.At i
-      → (i < 6) × (rated_in (view c m) k ≡ At (settled_of (outcome_at c m i)))
+  pub rated-at : (k i : ℕ) → seek (settled_code_at c) k (header_at c).settled 0 ≡ Some i
+      → (i < 6) × (rated_in (view c m) k ≡ Some (settled_of (outcome_at c m i)))
   rated-at k i e =
       let at = found_at b.results.codes k i (sym (outcome-search g (sound-holds s) k) ∙ e) in
       let few : i < 6 = omega (arith, at.0, g.keys.few) in
       let row : outcome_at c m i ≡ outcome_row b k =
       outcome-is (rows_of b) (sound-shaped s) (sound-holds s) i few ∙ settled-row g i at.0 ∙ ap (outcome_row b) at.1.0 in (
         few,
-        when_true _ _ at.1.1 ∙ ap (λ (x : Settled). At x) (sym (ap settled_of row ∙ settled_back b k)),
+        when_true _ _ at.1.1 ∙ ap (λ (x : Settled). Some x) (sym (ap settled_of row ∙ settled_back b k)),
       )
 
   -- ---- an account's bill
-  pub billed-none : (n : ℕ) → seek (number_at c) n (header_at c).members 0 ≡ found.Nothing → billed_in (view c m) n ≡ Unknown
+  pub billed-none : (n : ℕ) → seek (number_at c) n (header_at c).members 0 ≡ None → billed_in (view c m) n ≡ None
   billed-none n e = when_false _ _ (member-none g (sound-holds s) n e)
 
-  pub billed-at : (n i : ℕ) → seek (number_at c) n (header_at c).members 0 ≡ found.At i
-      → (i < 64) × (billed_in (view c m) n ≡ With (bill_at (account_at c m i)))
+  pub billed-at : (n i : ℕ) → seek (number_at c) n (header_at c).members 0 ≡ Some i
+      → (i < 64) × (billed_in (view c m) n ≡ Some (bill_at (account_at c m i)))
   billed-at n i e =
       let at = member-at g (sound-holds s) n i e in (
         omega (arith, at.0, g.sized.members),
-        when_true _ _ at.1.1 ∙ ap (λ (a : Account). With (bill_at a)) (sym (member-account g (sound-holds s) n i at.0 at.1.0)),
+        when_true _ _ at.1.1 ∙ ap (λ (a : Account). Some (bill_at a)) (sym (member-account g (sound-holds s) n i at.0 at.1.0)),
       )
 
   -- ---- the keys

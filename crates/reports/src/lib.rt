@@ -26,29 +26,8 @@ pub struct Bill {
     pub free: i64,
 }
 
-// What the last close found for a code, if the code was listed then.
-#[derive(Clone, Copy)]
-pub enum Rated {
-    At(Settled),
-    NotListed,
-}
-
-// What the last close left an account with, if there is such an account.
-#[derive(Clone, Copy)]
-pub enum Billed {
-    With(Bill),
-    Unknown,
-}
-
-// The lowest code or account number from a number on.
-#[derive(Clone, Copy)]
-pub enum Lowest {
-    Is(u64),
-    None,
-}
-
 // The last close's rate of a code, the rule that gave it and how many trades or counted quotes it used.
-pub fn rate_of(counts: &[u64; COUNTS], money: &[i64; MONEY], code: u64) -> Rated
+pub fn rate_of(counts: &[u64; COUNTS], money: &[i64; MONEY], code: u64) -> Option<Settled>
     requires { Sound counts.now money.now }
     ensures { result ≡ rated_in (view counts.now money.now) code }
 {
@@ -56,7 +35,7 @@ pub fn rate_of(counts: &[u64; COUNTS], money: &[i64; MONEY], code: u64) -> Rated
 }
 
 // An account's variation of the last close, what it is due, its requirement and what is free.
-pub fn bill_of(counts: &[u64; COUNTS], money: &[i64; MONEY], number: u64) -> Billed
+pub fn bill_of(counts: &[u64; COUNTS], money: &[i64; MONEY], number: u64) -> Option<Bill>
     requires { Sound counts.now money.now }
     ensures { result ≡ billed_in (view counts.now money.now) number }
 {
@@ -64,7 +43,7 @@ pub fn bill_of(counts: &[u64; COUNTS], money: &[i64; MONEY], number: u64) -> Bil
 }
 
 // The lowest code of the last close from a code on.
-pub fn settled_code_from(counts: &[u64; COUNTS], money: &[i64; MONEY], code: u64) -> Lowest
+pub fn settled_code_from(counts: &[u64; COUNTS], money: &[i64; MONEY], code: u64) -> Option<u64>
     requires { Sound counts.now money.now }
     ensures { result ≡ lowest_from code (view counts.now money.now).results.codes }
 {
@@ -72,7 +51,7 @@ pub fn settled_code_from(counts: &[u64; COUNTS], money: &[i64; MONEY], code: u64
 }
 
 // The lowest account number from a number on.
-pub fn member_from(counts: &[u64; COUNTS], money: &[i64; MONEY], number: u64) -> Lowest
+pub fn member_from(counts: &[u64; COUNTS], money: &[i64; MONEY], number: u64) -> Option<u64>
     requires { Sound counts.now money.now }
     ensures { result ≡ lowest_from number (view counts.now money.now).accounts.members }
 {
@@ -84,8 +63,7 @@ pub fn day_of(counts: &[u64; COUNTS], money: &[i64; MONEY]) -> u64
     requires { Sound counts.now money.now }
     ensures { result ≡ (view counts.now money.now).today.day }
 {
-    let h = load_header(counts);
-    h.day
+    load_header(counts).day
 }
 
 // The balance of the house account.

@@ -4,8 +4,6 @@ ghost use Rattle.standing.specs.Standing.{rule_of, settled_of, view};
 ghost use Rattle.standing.specs.Made.{Sound};
 ghost use Rattle.reports.specs.Reports.{rated_in};
 
-use crate::Rated;
-use lists::Found;
 use memory::{Outcome, find_outcome, load_outcome};
 use rates::{Rule, Settled};
 
@@ -35,13 +33,13 @@ fn settled_in(x: Outcome) -> Settled
 }
 
 // What the row of a code says, if there is one.
-pub(crate) fn rated(counts: &[u64], money: &[i64], code: u64) -> Rated
+pub(crate) fn rated(counts: &[u64], money: &[i64], code: u64) -> Option<Settled>
     requires { Sound counts.now money.now }
     ensures { result ≡ rated_in (view counts.now money.now) code }
 {
-    let Found::At(k) = find_outcome(counts, code) else {
-        return Rated::NotListed;
+    let Some(k) = find_outcome(counts, code) else {
+        return None;
     };
     let x = load_outcome(counts, money, k);
-    Rated::At(settled_in(x))
+    Some(settled_in(x))
 }

@@ -1,7 +1,5 @@
 -- Text as programs read it: where a line ends, where digits end, and the number that digits stand for.
-use Rattle.std.specs.Prelude.{Bool, not, ◌&&◌, cond, List, [], ◌∷◌, ℕ, suc, ◌+◌, ◌*◌, ◌-◌, leb, eqb, drop}
-use Rattle.scan.specs.declared.Number.{Number}
-use Rattle.scan.specs.declared.Number.TheVariants.{Of, NoNumber}
+use Rattle.std.specs.Prelude.{Bool, not, ◌&&◌, cond, List, [], ◌∷◌, ℕ, suc, ◌+◌, ◌*◌, ◌-◌, leb, eqb, drop, Option, Some, None}
 
 -- ---- places
 -- How many bytes stand before the first that passes a test; all of them where none does.
@@ -36,9 +34,9 @@ abbrev pub with_digit : ℕ → ℕ → ℕ
 with_digit n byte = 10 * n + (byte - 48)
 
 -- The number that n and the digits behind it stand for: none where a byte is no digit, or where it passes 64 bits.
-unfoldable pub number_from : ℕ → List ℕ → Number
-number_from n [] = Of n
-number_from n (x ∷ xs) = cond (is_digit x && leb (with_digit n x) most) (number_from (with_digit n x) xs) NoNumber
+unfoldable pub number_from : ℕ → List ℕ → Option ℕ
+number_from n [] = Some n
+number_from n (x ∷ xs) = cond (is_digit x && leb (with_digit n x) most) (number_from (with_digit n x) xs) None
 
-abbrev pub number_in : List ℕ → Number
+abbrev pub number_in : List ℕ → Option ℕ
 number_in digits = number_from 0 digits

@@ -1,11 +1,10 @@
 -- What the loops over a text need: one byte passed, a byte that stops, the end.
-use Rattle.std.specs.Prelude.{◌≡◌, Bool, ◌&&◌, List, ℕ, suc, ◌+◌, ◌≤◌, ◌<◌, leb, length, get_or, drop}
+use Rattle.std.specs.Prelude.{◌≡◌, Bool, ◌&&◌, List, ℕ, suc, ◌+◌, ◌≤◌, ◌<◌, leb, length, get_or, drop, Some, None}
 use Rattle.std.proofs.Math.Path.{refl}
 use Rattle.std.proofs.Math.Bool.{true, false, cond}
 use Rattle.std.proofs.Math.Numerals.{add-one}
 use Rattle.std.proofs.Common.{arith, drop_of_length-le, drop-cons}
 use Rattle.scan.specs.Text.{before, first_from, is_digit, most, with_digit, number_from}
-use Rattle.scan.specs.declared.Number.TheVariants.{Of, NoNumber}
 
 -- ---- places
 module _ (p : ℕ → Bool) (text : List ℕ) (at : ℕ) where
@@ -31,18 +30,18 @@ module _ (digits : List ℕ) (n i : ℕ) where
   unfolding number_from
   number_more h d f = rw (drop-cons digits i 0 h, d, f, add-one i)
 
-  pub number-no-digit : i < length digits → is_digit here ≡ false → number_from n (drop i digits) ≡ NoNumber
+  pub number-no-digit : i < length digits → is_digit here ≡ false → number_from n (drop i digits) ≡ None
   unfolding number_from
   number-no-digit h d = rw (drop-cons digits i 0 h, d)
 
-  pub number-too-large : i < length digits → leb (with_digit n here) most ≡ false → number_from n (drop i digits) ≡ NoNumber
+  pub number-too-large : i < length digits → leb (with_digit n here) most ≡ false → number_from n (drop i digits) ≡ None
   unfolding number_from
   number-too-large h f = rw (drop-cons digits i 0 h, f) (go (is_digit here))
     where
-      go : (t : Bool) → cond (t && false) (number_from (with_digit n here) (drop (suc i) digits)) NoNumber ≡ NoNumber
+      go : (t : Bool) → cond (t && false) (number_from (with_digit n here) (drop (suc i) digits)) None ≡ None
       go true = refl
       go false = refl
 
-  pub number-end : length digits ≤ i → number_from n (drop i digits) ≡ Of n
+  pub number-end : length digits ≤ i → number_from n (drop i digits) ≡ Some n
   unfolding number_from
   number-end h = rw (drop_of_length-le digits h)

@@ -1,34 +1,28 @@
 // Text as programs read it: where a line ends, where digits end, and the number that digits stand for.
 #![tactic(auto)]
 
-ghost use Rattle.std.specs.Prelude.{◌≡◌, ◌≤◌, max, length};
-ghost use Rattle.scan.specs.Text.{is_digit, byte_end, line_end, digits_end, number_in};
+ghost use Rattle.std.specs.Prelude.{◌≡◌, Bool, ℕ, ◌+◌, ◌*◌, ◌≤◌, max, length, SomeIff};
+ghost use Rattle.scan.specs.Text.{first_from, byte_end, line_end, digits_end, most, number_in};
 
-// A number of 64 bits, or that the bytes stand for none.
-#[derive(Clone, Copy)]
-pub enum Number {
-    Of(u64),
-    NoNumber,
+// The place of the first byte from a place on that passes a test, or the end. A place past the end is its own answer.
+fn first_from<F: Fn(u8) -> bool>(text: &[u8], from: usize, test: F) -> usize
+    requires { F.IsAlwaysCallable test }
+    ensures first { (p : ℕ → Bool) → ((byte : ℕ) (r : Bool) → F.post test byte r → r ≡ p byte) → result ≡ first_from p text.now from }
+    ensures from { from ≤ result }
+    ensures end { result ≤ max from (length text.now) }
+{
+    match text.iter().skip(from).position(|byte| test(*byte)) {
+        Some(passed) => from + passed,
+        None => from.max(text.len()),
+    }
 }
-
-// The largest number of 64 bits, and its tenth.
-const LARGEST: u64 = 18446744073709551615;
-
-const TENTH: u64 = 1844674407370955161;
 
 // The place of the first such byte from a place on, or the end.
 // That it lies between the place and the end follows, and is said for callers.
 pub fn byte_end(text: &[u8], from: usize, byte: u8) -> usize
     ensures { (result ≡ byte_end byte text.now from) × (from ≤ result) × (result ≤ max from (length text.now)) }
 {
-    let mut at = from;
-    while at < text.len() {
-        if text[at] == byte {
-            return at;
-        }
-        at += 1;
-    }
-    at
+    first_from(text, from, |b| b == byte)
 }
 
 // The place of the first line feed from a place on, or the end.
@@ -38,51 +32,30 @@ pub fn line_end(text: &[u8], from: usize) -> usize
     byte_end(text, from, b'\n')
 }
 
-// Whether a byte is a decimal digit.
-fn is_digit(byte: u8) -> bool
-    ensures { result ≡ is_digit byte }
-{
-    if byte < b'0' {
-        return false;
-    }
-    byte <= b'9'
-}
-
 // The place of the first byte from a place on that is no decimal digit, or the end.
 pub fn digits_end(text: &[u8], from: usize) -> usize
     ensures { (result ≡ digits_end text.now from) × (from ≤ result) × (result ≤ max from (length text.now)) }
 {
-    let mut next = from;
-    while next < text.len() {
-        if !is_digit(text[next]) {
-            return next;
-        }
-        next += 1;
-    }
-    next
+    first_from(text, from, |byte| !byte.is_ascii_digit())
 }
 
-// The number that decimal digits stand for.
-pub fn number_in(digits: &[u8]) -> Number
+// A number with one more digit behind it, where that is a number of 64 bits.
+fn with_digit(number: u64, digit: u8) -> Option<u64>
+    ensures { SomeIff result (10 * number + digit ≤ most) (10 * number + digit) }
+{
+    number.checked_mul(10)?.checked_add(u64::from(digit))
+}
+
+// The number that decimal digits stand for, if they stand for one of 64 bits.
+pub fn number_in(digits: &[u8]) -> Option<u64>
     ensures { result ≡ number_in digits.now }
 {
     let mut number: u64 = 0;
-    let mut i: usize = 0;
-    while i < digits.len() {
-        let byte = digits[i];
-        if !is_digit(byte) {
-            return Number::NoNumber;
+    for byte in digits {
+        if !byte.is_ascii_digit() {
+            return None;
         }
-        if TENTH < number {
-            return Number::NoNumber;
-        }
-        let shifted = number * 10;
-        let digit = (byte - b'0') as u64;
-        if LARGEST - shifted < digit {
-            return Number::NoNumber;
-        }
-        number = shifted + digit;
-        i += 1;
+        number = with_digit(number, *byte - b'0')?;
     }
-    Number::Of(number)
+    Some(number)
 }

@@ -1,5 +1,5 @@
 -- The rows of a book by place, the searches among them, and the rows after a change of one account.
-use Rattle.std.specs.Prelude.{◌≡◌, refl, true, false, ℕ, ◌+◌, ◌<◌, ℤ, length, get_or, set}
+use Rattle.std.specs.Prelude.{◌≡◌, refl, true, false, ℕ, ◌+◌, ◌<◌, ℤ, length, get_or, set, Some, None}
 use Rattle.std.proofs.Common.{sym, ◌∙◌, arith, eq-eqb, length-append}
 use Rattle.std.proofs.Math.Path.{ap}
 use mathlib.Core.List.{List, [], ◌∷◌}
@@ -10,7 +10,6 @@ use Rattle.lists.specs.KeyedLaws.{table_at, table-alike, table-set, table_more}
 use Rattle.lists.specs.Padded.{padded}
 use Rattle.lists.specs.PaddedLaws.{padded-full}
 use Rattle.lists.specs.Seek.{seek, seek-same}
-use Rattle.lists.specs.declared.Found.TheVariants.{At, Nothing}
 use Rattle.positions.specs.Deals.{flat}
 use Rattle.positions.specs.declared.Position.{Position}
 use Rattle.holdings.specs.Holdings.{new_holdings}
@@ -103,11 +102,11 @@ module _ {b : Book} (g : Kept b) where
         ∙ ap (λ (x : Outcome). x.code) (settled-row i (omega arith)))
 
     -- ---- a member found, or not
-    pub member-at : (n i : ℕ) → seek (number_at c) n (header_at c).members 0 ≡ At i
+    pub member-at : (n i : ℕ) → seek (number_at c) n (header_at c).members 0 ≡ Some i
         → (i < length b.accounts.members) × ((get_or b.accounts.members i 0 ≡ n) × (is_member b n ≡ true))
     member-at n i e = found_at b.accounts.members n i (sym (member-search n) ∙ e)
 
-    pub member-none : (n : ℕ) → seek (number_at c) n (header_at c).members 0 ≡ Nothing → is_member b n ≡ false
+    pub member-none : (n : ℕ) → seek (number_at c) n (header_at c).members 0 ≡ None → is_member b n ≡ false
     member-none n e = found_none b.accounts.members n (sym (member-search n) ∙ e)
 
     pub member-account : (n i : ℕ) → i < length b.accounts.members → get_or b.accounts.members i 0 ≡ n

@@ -1,10 +1,8 @@
 -- What an open makes of the rows of a book's memory are the rows of the book opened.
-use Rattle.std.specs.Prelude.{◌≡◌, refl, true, false, cond, List, [], ◌∷◌, map, ℕ, zero, suc, ◌≤◌, ◌<◌, ltb, ℤ, pos, length, get_or}
+use Rattle.std.specs.Prelude.{◌≡◌, refl, true, false, cond, List, [], ◌∷◌, map, ℕ, zero, suc, ◌≤◌, ◌<◌, ltb, ℤ, pos, length, get_or, Option, Some, None}
 use Rattle.std.proofs.Common.{sym, ap, ◌∙◌, arith, lt-ltb, ltb-true, eq-eqb}
 use Rattle.std.proofs.Math.Path.{fun_ext}
 use Rattle.std.proofs.lemmas.List.{length-map}
-use Rattle.lists.specs.declared.Found.{Found}
-use Rattle.lists.specs.declared.Found.TheVariants.{At, Nothing}
 use Rattle.lists.specs.Has.{has, place_of, Distinct}
 use Rattle.lists.specs.HasLaws.{by_test, clash, when_true, when_false, eqb-flip, has-apart}
 use Rattle.lists.specs.Keyed.{has-at, found_at, found_none}
@@ -50,7 +48,7 @@ place_at (k ∷ ks) (suc i) d h =
     (ap suc (place_at ks i d.1 (omega arith)))
 
 -- ---- a code's row among those that were listed
-abbrev sought : List ℕ → ℕ → Found
+abbrev sought : List ℕ → ℕ → Option ℕ
 sought old c = seek (λ i. get_or old i 0) c (length old) 0
 
 module _ (old : List ℕ) (c : ℕ) (few : length old ≤ 6) where
@@ -59,16 +57,16 @@ module _ (old : List ℕ) (c : ℕ) (few : length old ≤ 6) where
       → get_or (padded 6 d (map f old)) (place_found (sought old c)) d ≡ f c
   beside f d h = go (sought old c) refl
     where
-      go : (s : Found) → sought old c ≡ s → get_or (padded 6 d (map f old)) (place_found s) d ≡ f c
-      go (At i) e = let q = found_at old c i e in table_at 6 d f old i q.0 ∙ ap f q.1.0
-      go Nothing e = padded-past 6 d (map f old) 6 (rw (length-map old f) few) ∙ sym (h (found_none old c e))
+      go : (s : Option ℕ) → sought old c ≡ s → get_or (padded 6 d (map f old)) (place_found s) d ≡ f c
+      go (Some i) e = let q = found_at old c i e in table_at 6 d f old i q.0 ∙ ap f q.1.0
+      go None e = padded-past 6 d (map f old) 6 (rw (length-map old f) few) ∙ sym (h (found_none old c e))
 
   placed : ltb (place_found (sought old c)) 6 ≡ has c old
   placed = go (sought old c) refl
     where
-      go : (s : Found) → sought old c ≡ s → ltb (place_found s) 6 ≡ has c old
-      go (At i) e = let q = found_at old c i e in lt-ltb i 6 (omega (arith, q.0)) ∙ sym q.1.1
-      go Nothing e = sym (found_none old c e)
+      go : (s : Option ℕ) → sought old c ≡ s → ltb (place_found s) 6 ≡ has c old
+      go (Some i) e = let q = found_at old c i e in lt-ltb i 6 (omega (arith, q.0)) ∙ sym q.1.1
+      go None e = sym (found_none old c e)
 
 module _ {b : Book} (g : Kept b) (o : Opening) (known : (listing (working b) o.day).known ≡ true) where
   abbrev old : List ℕ

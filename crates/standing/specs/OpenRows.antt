@@ -1,6 +1,5 @@
 -- What an open makes of the rows of a memory: the codes of the day are listed, each in the row of its place.
-use Rattle.std.specs.Prelude.{cond, List, ℕ, ltb, ℤ, pos, get_or}
-use Rattle.lists.specs.declared.Found.{Found}
+use Rattle.std.specs.Prelude.{cond, List, ℕ, ltb, ℤ, pos, get_or, Option}
 use Rattle.lists.specs.Seek.{seek, on_found}
 use Rattle.lists.specs.Tabulate.{tab}
 use Rattle.positions.specs.Deals.{flat}
@@ -15,10 +14,10 @@ use Rattle.model.specs.Calls.{Opening}
 use Rattle.standing.specs.WalkLaws.{walked}
 
 -- ---- the row that each code had, 6 where it had none
-abbrev pub place_found : Found → ℕ
+abbrev pub place_found : Option ℕ → ℕ
 place_found f = on_found f 6 (λ k. k)
 
-abbrev pub places_by : (ℕ → Found) → List ℕ → List ℕ
+abbrev pub places_by : (ℕ → Option ℕ) → List ℕ → List ℕ
 places_by find codes = tab (λ j. place_found (find (get_or codes j 0))) 6
 
 abbrev pub places_in : Rows → List ℕ → List ℕ

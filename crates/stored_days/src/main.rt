@@ -8,18 +8,20 @@ use std::fs;
 use std::io::{self, Write};
 use std::rt::Files;
 
+// The file at a path, if it can be opened.
+fn open<R: Files>(rt: &R, path: &[u8]) -> Option<R::File> {
+    let name = str::from_utf8(path).ok()?;
+    fs::open(rt, name).ok()
+}
+
 // Prints the day of one file, and answers whether all of it was written. A file that cannot be opened is named, and the next one is tried.
 fn print_file<R: Files + Print>(rt: &R, path: &[u8]) -> bool {
     let mut output = io::writer(rt);
-    let _named = output.write_all(path).is_ok();
-    let Ok(name) = str::from_utf8(path) else {
+    let _ = output.write_all(path);
+    let Some(mut input) = open(rt, path) else {
         return output.write_all(b" cannot be read\n").is_ok();
     };
-    let Ok(file) = fs::open(rt, name) else {
-        return output.write_all(b" cannot be read\n").is_ok();
-    };
-    let mut input = file;
-    let _ended = output.write_all(b"\n").is_ok();
+    let _ = output.write_all(b"\n");
     let mut counts = [0u64; COUNTS];
     let mut money = [0i64; MONEY];
     run_day(&mut counts, &mut money, &mut input, &mut output)

@@ -3,41 +3,33 @@
 use std::io::{self, Read, Write};
 use window::read_full;
 
-// A file that is read.
+// A file, if it could be opened.
 #[derive(Drop)]
-pub(crate) enum Input<F> {
-    Open(F),
-    Missing,
+pub(crate) struct Opened<F> {
+    pub file: Option<F>,
 }
 
-impl<F: Read> Read for Input<F> {
+impl<F: Read> Read for Opened<F> {
     fn read(&mut self, buf: &mut [u8]) -> io::Result<usize> {
-        match self {
-            Input::Open(file) => file.read(buf),
-            Input::Missing => Ok(0),
+        match &mut self.file {
+            Some(file) => file.read(buf),
+            None => Ok(0),
         }
     }
 }
 
-// A file that is written.
-#[derive(Drop)]
-pub(crate) enum Output<F> {
-    Open(F),
-    Missing,
-}
-
-impl<F: Write> Write for Output<F> {
+impl<F: Write> Write for Opened<F> {
     fn write(&mut self, buf: &[u8]) -> io::Result<usize> {
-        match self {
-            Output::Open(file) => file.write(buf),
-            Output::Missing => Ok(0),
+        match &mut self.file {
+            Some(file) => file.write(buf),
+            None => Ok(0),
         }
     }
 
     fn flush(&mut self) -> io::Result<()> {
-        match self {
-            Output::Open(file) => file.flush(),
-            Output::Missing => Ok(()),
+        match &mut self.file {
+            Some(file) => file.flush(),
+            None => Ok(()),
         }
     }
 }
@@ -56,12 +48,9 @@ fn hold_same<F: Read>(first: &mut F, second: &mut F) -> bool {
 
 // Whether two open files hold the same. A file that could not be opened is like no other, and so is one of 65,536 bytes or more, which may have
 // been cut.
-pub(crate) fn are_same<F: Read>(first: &mut Input<F>, second: &mut Input<F>) -> bool {
-    let Input::Open(a) = first else {
-        return false;
-    };
-    let Input::Open(b) = second else {
-        return false;
-    };
-    hold_same(a, b)
+pub(crate) fn are_same<F: Read>(first: &mut Opened<F>, second: &mut Opened<F>) -> bool {
+    match (&mut first.file, &mut second.file) {
+        (Some(a), Some(b)) => hold_same(a, b),
+        _ => false,
+    }
 }

@@ -43,21 +43,19 @@ const WINDOW_END: u64 = 59400;
 pub fn in_last_hour(time: u64) -> bool
     ensures { result ≡ in_last_hour time }
 {
-    if time < WINDOW_START {
-        return false;
-    }
-    time < WINDOW_END
+    WINDOW_START <= time && time < WINDOW_END
 }
 
-// The mean with one more rate in it.
-fn mean_with(m: Mean, w: Weighted) -> Mean
-    requires { Fair 10000000 m × Small w }
-    ensures { result ≡ mean_with m w }
-{
-    let by = w.weight as i64;
-    Mean {
-        sum: m.sum + by * w.rate,
-        weight: m.weight + w.weight,
+impl Mean {
+    // The mean with one more rate in it.
+    fn with_rate(self, w: Weighted) -> Mean
+        requires { Fair 10000000 self × Small w }
+        ensures { result ≡ mean_with self w }
+    {
+        Mean {
+            sum: self.sum + w.weight as i64 * w.rate,
+            weight: self.weight + w.weight,
+        }
     }
 }
 
@@ -67,11 +65,8 @@ pub fn mean_of(latest: [Weighted; 5]) -> Mean
     ensures { result ≡ mean_of latest }
 {
     let mut m = Mean { sum: 0, weight: 0 };
-    let mut i: usize = 0;
-    while i < 5 {
-        let w = latest[i];
-        m = mean_with(m, w);
-        i += 1;
+    for w in &latest {
+        m = m.with_rate(*w);
     }
     m
 }
@@ -81,11 +76,7 @@ fn shifted(a: [Weighted; 5], x: Weighted) -> [Weighted; 5]
     requires { length a ≡ 5 }
     ensures { result ≡ shifted a x }
 {
-    let p = a[1];
-    let q = a[2];
-    let r = a[3];
-    let s = a[4];
-    [p, q, r, s, x]
+    [a[1], a[2], a[3], a[4], x]
 }
 
 // The tally of a day with no trade and no quote.
@@ -103,30 +94,40 @@ pub fn empty_tally() -> Tally
     }
 }
 
-// A trade counted in the day.
-fn in_day(t: Tally, w: Weighted) -> Tally
-    requires { Sound t }
-    ensures { result ≡ in_day t w }
-{
-    let a = t.latest;
-    let latest = shifted(a, w);
-    let mut x = t;
-    x.trades = t.trades + 1;
-    x.latest = latest;
-    x
-}
+impl Tally {
+    // A trade counted in the day.
+    fn in_day(self, w: Weighted) -> Tally
+        requires { Sound self }
+        ensures { result ≡ in_day self w }
+    {
+        Tally {
+            trades: self.trades + 1,
+            latest: shifted(self.latest, w),
+            ..self
+        }
+    }
 
-// A trade counted in the last hour.
-fn in_hour(t: Tally, w: Weighted) -> Tally
-    requires { (t.late ≤ 10000) × (Fair 10000000 t.hour × Small w) }
-    ensures { result ≡ in_hour t w }
-{
-    let m = t.hour;
-    let hour = mean_with(m, w);
-    let mut x = t;
-    x.late = t.late + 1;
-    x.hour = hour;
-    x
+    // A trade counted in the last hour.
+    fn in_hour(self, w: Weighted) -> Tally
+        requires { (self.late ≤ 10000) × (Fair 10000000 self.hour × Small w) }
+        ensures { result ≡ in_hour self w }
+    {
+        Tally {
+            late: self.late + 1,
+            hour: self.hour.with_rate(w),
+            ..self
+        }
+    }
+
+    // A quote counted on its side.
+    fn in_side(self, side: usize, w: Weighted) -> Tally
+        requires { Sound self × ((side < 2) × Small w) }
+        ensures { result ≡ in_side self side w }
+    {
+        let mut quotes = self.quotes;
+        quotes[side] = quotes[side].with_rate(w);
+        Tally { quotes, ..self }
+    }
 }
 
 // One accepted trade more.
@@ -135,25 +136,8 @@ pub fn with_trade(t: Tally, time: u64, lots: u64, rate: i64) -> Tally
     ensures { result ≡ with_trade t time (weighted lots rate) }
 {
     let w = Weighted { weight: lots, rate };
-    let x = in_day(t, w);
-    if in_last_hour(time) {
-        return in_hour(x, w);
-    }
-    x
-}
-
-// A quote counted on its side.
-fn in_side(t: Tally, side: usize, w: Weighted) -> Tally
-    requires { Sound t × ((side < 2) × Small w) }
-    ensures { result ≡ in_side t side w }
-{
-    let mut quotes = t.quotes;
-    let m = quotes[side];
-    let mean = mean_with(m, w);
-    quotes[side] = mean;
-    let mut x = t;
-    x.quotes = quotes;
-    x
+    let x = t.in_day(w);
+    if in_last_hour(time) { x.in_hour(w) } else { x }
 }
 
 // One accepted quote more: side 0 is a bid, 1 an offer. Outside the last hour it counts nowhere.
@@ -161,12 +145,9 @@ pub fn with_quote(t: Tally, time: u64, side: u64, rate: i64) -> Tally
     requires { Sound t × Within 100000 rate }
     ensures { result ≡ with_quote t time side (weighted 1 rate) }
 {
-    if !in_last_hour(time) {
-        return t;
+    if in_last_hour(time) && side < 2 {
+        t.in_side(side as usize, Weighted { weight: 1, rate })
+    } else {
+        t
     }
-    if 2 <= side {
-        return t;
-    }
-    let w = Weighted { weight: 1, rate };
-    in_side(t, side as usize, w)
 }

@@ -14,8 +14,7 @@ fn asked(p: Position, margin: u64) -> i64
     requires { Within 21000 p.net × (margin ≤ 100000000) }
     ensures { result ≡ asked p margin }
 {
-    let lots = size(p.net);
-    (lots * margin) as i64
+    (size(p.net) * margin) as i64
 }
 
 // The margin that all of them ask for, with no netting between contracts.
@@ -23,13 +22,9 @@ pub fn total(positions: [Position; 6], margins: [u64; 6]) -> i64
     requires { Nets 21000 positions × Margins margins }
     ensures { result ≡ total positions margins }
 {
-    let mut sum: i64 = 0;
-    let mut row: usize = 0;
-    while row < 6 {
-        let p = positions[row];
-        let margin = asked(p, margins[row]);
-        sum += margin;
-        row += 1;
+    let mut sum = 0;
+    for (p, margin) in positions.iter().zip(&margins) {
+        sum += asked(*p, *margin);
     }
     sum
 }

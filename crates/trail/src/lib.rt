@@ -51,33 +51,6 @@ pub fn load_row(counts: &[u64], money: &[i64], i: usize) -> Row
     row_in(&counts[c..c + 3], &money[m..m + 6])
 }
 
-fn put_row_counts(cells: &mut [u64], row: Row)
-    requires { length cells.old ≡ 3 }
-    ensures { cells.new ≡ row_counts row }
-{
-    cells[0] = row.code;
-    cells[1] = row.time;
-    cells[2] = row.other;
-}
-
-fn put_row_money(cells: &mut [i64], row: Row)
-    requires { length cells.old ≡ 6 }
-    ensures { cells.new ≡ row_money row }
-{
-    let lots = row.lots;
-    let rate = row.rate;
-    let before = row.before;
-    let after = row.after;
-    let limit = row.limit;
-    let amount = row.amount;
-    cells[0] = lots;
-    cells[1] = rate;
-    cells[2] = before;
-    cells[3] = after;
-    cells[4] = limit;
-    cells[5] = amount;
-}
-
 // Puts a row at a place.
 pub fn store_row(counts: &mut [u64], money: &mut [i64], i: usize, row: Row)
     requires { (i * 3 + 3 ≤ length counts.old) × (i * 6 + 6 ≤ length money.old) }
@@ -85,8 +58,10 @@ pub fn store_row(counts: &mut [u64], money: &mut [i64], i: usize, row: Row)
 {
     let c = i * 3;
     let m = i * 6;
-    put_row_counts(&mut counts[c..c + 3], row);
-    put_row_money(&mut money[m..m + 6], row);
+    counts[c..c + 3].copy_from_slice(&[row.code, row.time, row.other]);
+    money[m..m + 6].copy_from_slice(&[
+        row.lots, row.rate, row.before, row.after, row.limit, row.amount,
+    ]);
 }
 
 // What a trade earns: one rate unit on one lot is 250 fen.
@@ -108,9 +83,10 @@ fn price_row(counts: &[u64], money: &mut [i64], i: usize, code: u64, rate: i64) 
     if code == row.code {
         let amount = worth(row.lots, row.rate, rate);
         money[i * 6 + 5] = amount;
-        return amount;
+        amount
+    } else {
+        0
     }
-    0
 }
 
 // Sets the amounts of the trades of a code at its settlement rate, and answers their sum.
@@ -119,12 +95,9 @@ pub fn price(counts: &[u64], money: &mut [i64], used: usize, code: u64, rate: i6
     requires within { Within 100000 rate × All Modest (rows_in counts.now money.old used) }
     ensures { Priced counts.now money.old used code rate result money.new }
 {
-    let mut sum: i64 = 0;
-    let mut i: usize = 0;
-    while i < used {
-        let amount = price_row(counts, &mut *money, i, code, rate);
-        sum += amount;
-        i += 1;
+    let mut sum = 0;
+    for i in 0..used {
+        sum += price_row(counts, &mut *money, i, code, rate);
     }
     sum
 }

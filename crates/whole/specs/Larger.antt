@@ -1,6 +1,9 @@
 -- The larger and the smaller of two whole numbers. Document 01 says `max` and `the smaller of`.
-use Rattle.std.specs.Prelude.{◌≡◌, Bool, true, false, not, cond, ℕ, ◌+◌, min, max, T, ℤ, ◌≤ℤ◌}
-use Rattle.std.specs.Int.Signed.{lt_z, lt_z_yes, lt_z_no}
+use Rattle.std.specs.Prelude.{◌≡◌, refl, Bool, true, false, not, cond, ℕ, ◌+◌, min, max, T, ℤ, ◌≤ℤ◌, ◌<ℤ◌}
+use Rattle.std.proofs.Common.{sym}
+use Rattle.std.specs.Int.{int_max, int_min}
+use Rattle.std.specs.Int.Signed.{lt_z, lt_z_yes, lt_z_no, clash_ℤ}
+use Rattle.whole.specs.Order.{≤ℤ-antisym, <ℤ-weaken}
 use Rattle.whole.specs.Parts.{◌⊖◌, ⊖-le, ⊖-lt, parts₂, ring, zarith}
 use Rattle.whole.specs.Within.{Within, zbound}
 
@@ -44,3 +47,20 @@ larger-within x y h k = parts₂ x y (λ a b. simp (a.is, b.is, ring-larger) (om
 
 pub smaller-within : {B : ℕ} (x y : ℤ) → Within B x → Within B y → Within B (smaller x y)
 smaller-within x y h k = parts₂ x y (λ a b. simp (a.is, b.is, ring-larger) (omega zbound))
+
+-- ---- as std has them
+-- Which of two equal numbers is taken makes no difference.
+two_tests : (x y : ℤ) (s t : Bool) → (T s → x <ℤ y) → (T (not s) → y ≤ℤ x) → (T t → y <ℤ x) → (T (not t) → x ≤ℤ y)
+    → (cond s y x ≡ cond t x y) × (cond s x y ≡ cond t y x)
+two_tests x y true true p _ q _ = clash_ℤ (p tt) (<ℤ-weaken (q tt))
+two_tests x y true false _ _ _ _ = (refl, refl)
+two_tests x y false true _ _ _ _ = (refl, refl)
+two_tests x y false false _ p _ q = let e = ≤ℤ-antisym (p tt) (q tt) in (sym e, e)
+
+pub larger_is : (x y : ℤ) → larger x y ≡ int_max x y
+unfolding larger
+larger_is x y = (two_tests x y (lt_z x y) (lt_z y x) lt_z_yes lt_z_no lt_z_yes lt_z_no).0
+
+pub smaller_is : (x y : ℤ) → smaller x y ≡ int_min x y
+unfolding smaller
+smaller_is x y = (two_tests x y (lt_z x y) (lt_z y x) lt_z_yes lt_z_no lt_z_yes lt_z_no).1

@@ -7,25 +7,24 @@ ghost use Rattle.whole.specs.Larger.{larger, smaller};
 ghost use Rattle.whole.specs.Round.{on_tie, size_rounded_by, with_sign, rounded, hundredth_up};
 
 // The size of a number, as the total takes it of a net position.
-// `-1 - x` fits at every x, and `0 - x` does not at the least one.
 pub fn size(x: i64) -> u64
     ensures { result ≡ nat_abs x }
 {
-    if x < 0 { (-1 - x) as u64 + 1 } else { x as u64 }
+    x.unsigned_abs()
 }
 
 // The larger of two, for the over-limit and the core.
 pub fn larger(a: i64, b: i64) -> i64
     ensures { result ≡ larger a b }
 {
-    if a < b { b } else { a }
+    a.max(b)
 }
 
 // The smaller of two, for the core of an account with too little margin.
 pub fn smaller(a: i64, b: i64) -> i64
     ensures { result ≡ smaller a b }
 {
-    if a < b { a } else { b }
+    a.min(b)
 }
 
 // Where a tie goes: to the higher number, whose size is the smaller one below zero. The one place to change when the tie rule does.
@@ -73,8 +72,7 @@ pub fn rounded(n: i64, d: u64) -> i64
     requires { 0 < d }
     ensures { result ≡ rounded n d }
 {
-    let m = size_rounded(n, d);
-    with_sign(n, m)
+    with_sign(n, size_rounded(n, d))
 }
 
 // A hundredth, rounded up, for the over-limit, whose multiplier is in hundredths.

@@ -8,7 +8,7 @@ ghost use Rattle.wording.specs.Text.{field_text, fields_text, exception_text, re
 use crate::labels::{put_kind, put_label, style_of};
 use crate::values::put_value;
 use decimal::{put_number, put_word};
-use fields::{Count, WIDTH, count_of};
+use fields::{WIDTH, count_of};
 
 // No line is longer: a word, thirteen fields and four hundred exceptions.
 pub const LONGEST: usize = 8914;
@@ -28,10 +28,8 @@ fn put_fields(room: &mut [u8], at: usize, kind: u64, fields: [u64; WIDTH], n: us
     ensures { Put room.old at (fields_text kind 0 (take (count kind) fields)) result room.new }
 {
     let mut next = at;
-    let mut i: usize = 0;
-    while i < n {
-        next = put_field(&mut *room, next, kind, i, fields[i]);
-        i += 1;
+    for (i, field) in fields[..n].iter().enumerate() {
+        next = put_field(&mut *room, next, kind, i, *field);
     }
     next
 }
@@ -42,11 +40,9 @@ fn put_exceptions(room: &mut [u8], at: usize, exceptions: &[u64]) -> usize
     ensures { Put room.old at (block exception_text exceptions.now) result room.new }
 {
     let mut next = at;
-    let mut done: usize = 0;
-    while done < exceptions.len() {
+    for exception in exceptions {
         let space = put_word(&mut *room, next, b" ");
-        next = put_number(&mut *room, space, exceptions[done]);
-        done += 1;
+        next = put_number(&mut *room, space, *exception);
     }
     next
 }
@@ -62,7 +58,7 @@ pub fn put_record(
     requires { (shaped kind fields (length exceptions.now) ≡ true) × (at + 8914 ≤ length room.old) }
     ensures { Put room.old at (record_text kind fields exceptions.now) result room.new }
 {
-    let Count::Of(n) = count_of(kind) else {
+    let Some(n) = count_of(kind) else {
         return at;
     };
     let word = put_kind(&mut *room, at, kind);

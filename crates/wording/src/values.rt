@@ -21,8 +21,8 @@ fn put_two(room: &mut [u8], at: usize, number: u64) -> usize
     requires { (number < 100) × (at + 2 ≤ length room.old) }
     ensures { Put room.old at (two_digits number) result room.new }
 {
-    let tens = 48 + (number / 10) as u8;
-    let ones = 48 + (number % 10) as u8;
+    let tens = b'0' + (number / 10) as u8;
+    let ones = b'0' + (number % 10) as u8;
     put_word(room, at, &[tens, ones])
 }
 
@@ -77,9 +77,10 @@ pub fn put_time(room: &mut [u8], at: usize, seconds: u64) -> usize
     ensures { Put room.old at (time_text seconds) result room.new }
 {
     if seconds < 86400 {
-        return put_clock(room, at, seconds);
+        put_clock(room, at, seconds)
+    } else {
+        put_number(room, at, seconds)
     }
-    put_number(room, at, seconds)
 }
 
 // Puts the side of a quote.
@@ -87,13 +88,11 @@ fn put_side(room: &mut [u8], at: usize, side: u64) -> usize
     requires { at + 20 ≤ length room.old }
     ensures { Put room.old at (side_text side) result room.new }
 {
-    if side == 0 {
-        return put_word(room, at, b"bid");
+    match side {
+        0 => put_word(room, at, b"bid"),
+        1 => put_word(room, at, b"offer"),
+        _ => put_number(room, at, side),
     }
-    if side == 1 {
-        return put_word(room, at, b"offer");
-    }
-    put_number(room, at, side)
 }
 
 // Puts a value.

@@ -29,28 +29,28 @@ abbrev both : (s : Start)
 both s = got (add (kept (today s).reads tt) (kept (held s).reads tt))
 
 pub overflow_sub-today : goal.overflow_sub-today
-overflow_sub-today c = fits (lots c.before.before.before).reads tt
+overflow_sub-today c = fits (lots (goal.at.overflow_sub-today c).Start).reads tt
 
 pub overflow_mul-today : goal.overflow_mul-today
-overflow_mul-today c = fits (worth c.before.before.before.before.before).reads tt
+overflow_mul-today c = fits (worth (goal.at.overflow_mul-today c).Start).reads tt
 
 pub overflow_sub-today-2 : goal.overflow_sub-today-2
-overflow_sub-today-2 c = fits (today c.before.before.before.before.before.before.before).reads tt
+overflow_sub-today-2 c = fits (today (goal.at.overflow_sub-today-2 c).Start).reads tt
 
 pub overflow_sub-held : goal.overflow_sub-held
-overflow_sub-held c = fits (move c.before.before.before.before.before.before.before.before.before).reads tt
+overflow_sub-held c = fits (move (goal.at.overflow_sub-held c).Start).reads tt
 
 pub overflow_mul-held : goal.overflow_mul-held
-overflow_mul-held c = fits (held c.before.before.before.before.before.before.before.before.before.before).reads tt
+overflow_mul-held c = fits (held (goal.at.overflow_mul-held c).Start).reads tt
 
 pub overflow_add-result : goal.overflow_add-result
-overflow_add-result c = fits (both c.before.before.before.before.before.before.before.before.before.before).reads tt
+overflow_add-result c = fits (both (goal.at.overflow_add-result c).Start).reads tt
 
 pub overflow_mul-result : goal.overflow_mul-result
 overflow_mul-result c =
-    fits (mul (now (lit (pos 250))) (kept (both c.before.before.before.before.before.before.before.before.before.before).reads tt)) tt
+    fits (mul (now (lit (pos 250))) (kept (both (goal.at.overflow_mul-result c).Start).reads tt)) tt
 
 pub returns : goal.returns
 unfolding variation_at
 returns c =
-    (kept (mul (now (lit (pos 250))) (kept (both c.before.before.before.before.before.before.before.before.before.before).reads tt)) tt).eq
+    (kept (mul (now (lit (pos 250))) (kept (both (goal.at.returns c).Start).reads tt)) tt).eq

@@ -1,4 +1,6 @@
-use mathlib.Core.Path.{◌∙◌}
+use Rattle.std.proofs.Common.{rules, to_z, of_z}
+use mathlib.Core.Path.{◌≡◌, ◌∙◌}
+use mir.Syntax.{w64}
 use native.Mathlib.Omega.{arith}
 use Rattle.whole.specs.Machine.{told}
 use Rattle.positions.specs.BoundLaws.{nets-wider}
@@ -13,7 +15,10 @@ total-dayend-requires c =
 pub returns : goal.returns
 unfolding at_close
 returns c =
+    let h = c.args.h in
     let carried = c.all_carried-positions in
-    let booked = c.variation-booked in
+    let booked = c.variation in
     let asked = c.total-dayend in
-    rw (told asked.result asked.type_inv ∙ asked.ensures, told booked.result booked.type_inv ∙ booked.ensures, carried.ensures)
+    let core : to_z w64 (of_z w64 h.core) ≡ h.core = search rules in
+    let special : to_z w64 (of_z w64 h.special) ≡ h.special = search rules in
+    rw (told asked.result asked.type_inv ∙ asked.ensures, told booked.result booked.type_inv ∙ booked.ensures, carried.ensures, core, special)

@@ -1,3 +1,4 @@
+use Rattle.std.proofs.Common.{rules}
 use mathlib.Core.Path.{ap₂, ◌∙◌}
 use Rattle.whole.specs.Machine.{told}
 use Rattle.whole.specs.Larger.{larger}
@@ -5,7 +6,6 @@ use Rattle.closing.proofs.full_core.Goals as goal
 
 pub returns : goal.returns
 returns c =
-    let least = c.basis-least in
     told c.larger.result c.larger.type_inv
     ∙ c.larger.ensures
-    ∙ ap₂ larger (told least.result least.type_inv ∙ least.ensures) (told c.args.h.dayend c.struct_told-1.given.1.1.1.1.0.1)
+    ∙ ap₂ larger (told c.basis.result c.basis.type_inv ∙ c.basis.ensures) (search rules)

@@ -9,7 +9,7 @@ use Rattle.holdings.proofs.BoundLaws.{basis-amount}
 use Rattle.closing.specs.DayEnd.{over_limit, requirement}
 use Rattle.closing.proofs.BoundLaws.{over-amount}
 use Rattle.closing.proofs.requirement.Goals as goal
-use Rattle.closing.proofs.requirement.Goals.{After-basis-least, After-over_limit-over, Start}
+use Rattle.closing.proofs.requirement.Goals.{After-basis-least, After-over_limit, Start}
 
 -- the basis and the over-limit, and that the machine holds them
 abbrev basis_at : Start → ℤ
@@ -18,52 +18,39 @@ basis_at s = basis s.args.h.limits s.args.reference
 abbrev over_at : Start → ℤ
 over_at s = over_limit s.args.h.dayend (basis_at s) s.args.multiplier
 
-least : (c : After-basis-least) → to_z w64 (of_z w64 c.basis-least.result) ≡ basis_at c.before.before
+least : (c : After-basis-least) → to_z w64 (of_z w64 c.basis-least.result) ≡ basis_at (goal.at.After-basis-least c).Start
 least c = told c.basis-least.result c.basis-least.type_inv ∙ c.basis-least.ensures
 
-pub over_limit-over-requires : goal.over_limit-over-requires
-over_limit-over-requires c = (
+pub over_limit-requires : goal.over_limit-requires
+over_limit-requires c = (
   subst (Amount 12000000000000) (sym (arg (amount-within c.requires.0.dayend) tt).eq) c.requires.0.dayend,
-  (subst (Amount 100000000000000) (sym (least c.before.before)) (basis-amount c.requires.0.limits c.requires.1.0), c.requires.1.1),
+  (
+    subst (Amount 100000000000000) (sym (least (goal.at.over_limit-requires c).After-basis-least)) (basis-amount c.requires.0.limits c.requires.1.0),
+    c.requires.1.1,
+  ),
 )
 
-over : (c : After-over_limit-over) → to_z w64 (of_z w64 c.over_limit-over.result) ≡ over_at c.before.before.before.before.before
+over : (c : After-over_limit) → to_z w64 (of_z w64 c.over_limit.result) ≡ over_at (goal.at.After-over_limit c).Start
 over c =
-    told c.over_limit-over.result c.over_limit-over.type_inv
-    ∙ c.over_limit-over.ensures
-    ∙ ap₂ (λ t b. over_limit t b c.args.multiplier) (arg (amount-within c.requires.0.dayend) tt).eq (least c.before.before.before)
+    told c.over_limit.result c.over_limit.type_inv
+    ∙ c.over_limit.ensures
+    ∙ ap₂ (λ t b. over_limit t b c.args.multiplier) (arg (amount-within c.requires.0.dayend) tt).eq (least (goal.at.After-over_limit c).After-basis-least)
 
-abbrev two : (c : After-over_limit-over)
-    → Got 220000000000000 (basis_at c.before.before.before.before.before +ℤ over_at c.before.before.before.before.before)
+abbrev two : (c : After-over_limit)
+    → let s = (goal.at.After-over_limit c).Start in Got 220000000000000 (basis_at s +ℤ over_at s)
 two c =
     let b = basis-amount c.requires.0.limits c.requires.1.0 in
     let o = over-amount c.requires.0.dayend b c.requires.1.1 in
-    got (add (held (least c.before.before.before) (amount-within b)) (held (over c) (amount-within o)))
+    got (add (held (least (goal.at.After-over_limit c).After-basis-least) (amount-within b)) (held (over c) (amount-within o)))
 
 pub overflow_add-result : goal.overflow_add-result
-overflow_add-result c = fits (two c).reads tt
+overflow_add-result c = fits (two (goal.at.overflow_add-result c).After-over_limit).reads tt
 
 pub overflow_add-result-2 : goal.overflow_add-result-2
 overflow_add-result-2 c =
-    let over : to_z w64 (of_z w64 c.over_limit-over.result) ≡ over_at c.before.before.before.before.before.before =
-    told c.over_limit-over.result c.over_limit-over.type_inv
-    ∙ c.over_limit-over.ensures
-    ∙ ap₂ (λ t b. over_limit t b c.args.multiplier) (arg (amount-within c.requires.0.dayend) tt).eq (least c.before.before.before.before) in
-    let two : Got 220000000000000 (basis_at c.before.before.before.before.before.before +ℤ over_at c.before.before.before.before.before.before) =
-    let b = basis-amount c.requires.0.limits c.requires.1.0 in
-    let o = over-amount c.requires.0.dayend b c.requires.1.1 in
-    got (add (held (least c.before.before.before.before) (amount-within b)) (held over (amount-within o))) in
-    fits (add (kept two.reads tt) (arg (amount-within c.requires.0.special) tt)) tt
+    fits (add (kept (two (goal.at.overflow_add-result-2 c).After-over_limit).reads tt) (arg (amount-within c.requires.0.special) tt)) tt
 
 pub returns : goal.returns
 unfolding requirement
 returns c =
-    let over : to_z w64 (of_z w64 c.over_limit-over.result) ≡ over_at c.before.before.before.before.before.before =
-    told c.over_limit-over.result c.over_limit-over.type_inv
-    ∙ c.over_limit-over.ensures
-    ∙ ap₂ (λ t b. over_limit t b c.args.multiplier) (arg (amount-within c.requires.0.dayend) tt).eq (least c.before.before.before.before) in
-    let two : Got 220000000000000 (basis_at c.before.before.before.before.before.before +ℤ over_at c.before.before.before.before.before.before) =
-    let b = basis-amount c.requires.0.limits c.requires.1.0 in
-    let o = over-amount c.requires.0.dayend b c.requires.1.1 in
-    got (add (held (least c.before.before.before.before) (amount-within b)) (held over (amount-within o))) in
-    (kept (add (kept two.reads tt) (arg (amount-within c.requires.0.special) tt)) tt).eq
+    (kept (add (kept (two (goal.at.returns c).After-over_limit).reads tt) (arg (amount-within c.requires.0.special) tt)) tt).eq

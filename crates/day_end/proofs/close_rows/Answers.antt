@@ -1,5 +1,4 @@
 use mathlib.Core.Path.{◌≡◌, sym, subst}
-use borrow.Author.Rules.{rules}
 use lib.ListN.{get_or}
 use Rattle.whole.specs.Machine.{back}
 use Rattle.positions.specs.Bounds.{no_mark}

@@ -9,14 +9,14 @@ use Rattle.days.proofs.is_accepted.Goals.{Joined-is_working, then-is_working, el
 
 pub loop-counted-init : goal.loop-counted-init
 unfolding off_run no_long_break
-loop-counted-init c = (omega arith, (refl, (omega arith, refl)))
+loop-counted-init c = (refl, omega arith, refl)
 
 -- the run after the day is counted, by whether the day is working
 run_is : (c : Joined-is_working) → c.if-is_working.run ≡ off_run (is_working c.args.exceptions.now) (c.loop-counted.counted + 1)
 run_is c = elim c.if-is_working.branch [
   | then-is_working x ↦ x.run-is ∙ sym (run_on (is_working c.args.exceptions.now) c.loop-counted.counted (sym c.is_working.ensures ∙ x.if-is_working.true))
   | else-is_working x ↦
-      x.run-is ∙ ap (λ n. n + 1) c.loop-counted.invariant.1.0
+      x.run-is ∙ ap (λ n. n + 1) c.loop-counted.invariant.0
       ∙ sym (run-off (is_working c.args.exceptions.now) c.loop-counted.counted (sym c.is_working.ensures ∙ x.if-is_working.false))
 ]
 
@@ -29,9 +29,9 @@ pub loop-counted-preserved : goal.loop-counted-preserved
 loop-counted-preserved c =
     let counted = run_is (goal.at.loop-counted-preserved c).Joined-is_working in
     let short = c.if-run-gt14.false in
-    (omega arith, (counted, (short, short-run _ _ (rw (← counted) short) c.loop-counted.invariant.1.1.1)))
+    (counted, short, short-run _ _ (rw (← counted) short) c.loop-counted.invariant.2)
 
 pub returns : goal.returns
 returns c =
     let z : c.loop-counted.counted ≡ 3653 = omega arith in
-    sym (rw z at c.loop-counted.invariant.1.1.1)
+    sym (rw z at c.loop-counted.invariant.2)

@@ -6,7 +6,4 @@ use Rattle.days.specs.DayLaws.{off_run}
 use Rattle.days.proofs.is_accepted.Given as goal
 
 abbrev pub invariant-loop-counted : goal.invariant-loop-counted
-invariant-loop-counted l = (l.counted ≤ 3653) × ((l.run ≡ off_run (is_working l.exceptions) l.counted) × ((l.run ≤ 14) × (no_long_break (is_working l.exceptions) (l.counted - 14) ≡ true)))
-
-abbrev pub decreases-loop-counted : goal.decreases-loop-counted
-decreases-loop-counted l = 3653 - l.counted
+invariant-loop-counted l = (l.run ≡ off_run (is_working l.exceptions) l.counted) × (l.run ≤ 14) × (no_long_break (is_working l.exceptions) (l.counted - 14) ≡ true)

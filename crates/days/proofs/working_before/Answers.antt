@@ -5,7 +5,7 @@ use Rattle.days.specs.DayLaws.{last-hit, last-miss, last_none}
 use Rattle.days.proofs.working_before.Goals as goal
 
 pub loop-earlier-init : goal.loop-earlier-init
-loop-earlier-init c = sym (ap (last_working _) c.at_most_end-earlier.ensures)
+loop-earlier-init c = sym (ap (last_working _) c.min-earlier.ensures)
 
 pub returns-then-is_working : goal.returns-then-is_working
 returns-then-is_working c = sym (c.loop-earlier.invariant ∙ last-hit _ _ c.loop-earlier-test.true (sym c.is_working.ensures ∙ c.if-is_working.true))

@@ -4,6 +4,3 @@ use Rattle.days.proofs.working_before.Given as goal
 
 abbrev pub invariant-loop-earlier : goal.invariant-loop-earlier
 invariant-loop-earlier l = working_before (is_working l.exceptions) l.day ≡ last_working (is_working l.exceptions) l.earlier
-
-abbrev pub decreases-loop-earlier : goal.decreases-loop-earlier
-decreases-loop-earlier l = l.earlier

@@ -10,6 +10,3 @@ use Rattle.decimal.proofs.put_digits.Given as goal
 abbrev pub invariant-loop-left : goal.invariant-loop-left
 invariant-loop-left l =
     (length l.room ≡ length l.initial.room) × (l.left ≤ l.count) × (last_digits l.left l.rest ++ slice l.left l.count l.room ≡ last_digits l.count l.number) × (drop l.count l.room ≡ drop l.count l.initial.room)
-
-abbrev pub decreases-loop-left : goal.decreases-loop-left
-decreases-loop-left l = l.left

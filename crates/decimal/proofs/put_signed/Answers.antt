@@ -26,19 +26,14 @@ size_is c = c.size-size.ensures ∙ ap nat_abs (back c.ranges.number)
 
 pub returns-then-number-lt0 : goal.returns-then-number-lt0
 returns-then-number-lt0 c =
-    let size_is : c.size-size.result ≡ nat_abs c.args.number =
-    c.size-size.ensures ∙ ap nat_abs (back c.ranges.number) in
     let below : let z = c.args.number in (minus ∷ []) ++ numeral c.size-size.result ≡ signed_numeral z =
-    ap (λ size. (minus ∷ []) ++ numeral size) size_is
+    ap (λ size. (minus ∷ []) ++ numeral size) (size_is (goal.at.returns-then-number-lt0 c).After-size-size)
     ∙ text-below c.args.number (lt_yes (back c.ranges.number) refl c.if-number-lt0.true) in
-    let word = c.before.before.before.before.before.before in
     rw below at
     (put-more (omega (arith, numeral-length c.size-size.result)) c.put_word-next.ensures c.put_number.ensures)
 
 pub returns : goal.returns
 returns c =
-    let size_is : c.size-size.result ≡ nat_abs c.args.number =
-    c.size-size.ensures ∙ ap nat_abs (back c.ranges.number) in
     let above : let z = c.args.number in numeral c.size-size.result ≡ signed_numeral z =
-    ap numeral size_is ∙ text-above c.args.number (lt_no (back c.ranges.number) refl c.if-number-lt0.false) in
+    ap numeral (size_is (goal.at.returns c).After-size-size) ∙ text-above c.args.number (lt_no (back c.ranges.number) refl c.if-number-lt0.false) in
     rw above at c.put_number-2.ensures

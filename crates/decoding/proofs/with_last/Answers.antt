@@ -5,7 +5,7 @@ use native.Mathlib.Omega.{arith}
 use borrow.Author.Tests.{lt-ltb, le-ltb}
 use Rattle.decoding.specs.Groups.{scale-under, sum-under, sum_over}
 use Rattle.decoding.proofs.with_last.Goals as goal
-use Rattle.decoding.proofs.with_last.Goals.{Else-scale-eq-TENTH}
+use Rattle.decoding.proofs.with_last.Goals.{Joined-else-scale-eq-TENTH, else-scale-eq-TENTH-via-then-scale-eq-TENTH+else-group-gt1, else-scale-eq-TENTH-via-else-scale-eq-TENTH}
 
 pub returns-then-group-eq0 : goal.returns-then-group-eq0
 returns-then-group-eq0 c = rw (le-ltb 0 c.args.group (omega arith))
@@ -15,21 +15,17 @@ returns-then-group-gt1 c =
     let a = c.args in
     rw (lt-ltb 0 a.group (omega arith), le-ltb (a.value + a.group * a.scale) (2 ^ 64) (sum_over _ _ _ c.requires.1 c.if-group-gt1.true c.if-scale-eq-TENTH.true))
 
-pub returns-then-scale-eq-TENTH : goal.returns-then-scale-eq-TENTH
-returns-then-scale-eq-TENTH c =
-    let a = c.args in
-    let one : a.group ≡ 1 = omega arith in
-    let sum : a.value + a.group * a.scale ≡ a.value + a.scale = rw one (omega arith) in
-    rw (lt-ltb 0 a.group (omega arith), sum, lt-ltb (a.value + a.scale) (2 ^ 64) (omega arith))
-
-small : (c : Else-scale-eq-TENTH) → let a = c.args in a.value + a.group * a.scale < 2 ^ 64
-small c = sum-under _ c.args.group _ c.requires.1 c.requires.2 (scale-under _ c.requires.0 c.if-scale-eq-TENTH.false)
+small : (c : Joined-else-scale-eq-TENTH) → let a = c.args in a.value + a.group * a.scale < 2 ^ 64
+small c = elim c.else-scale-eq-TENTH.branch [
+  | else-scale-eq-TENTH-via-then-scale-eq-TENTH+else-group-gt1 w ↦ (let one : c.args.group ≡ 1 = omega arith in rw one (omega arith))
+  | else-scale-eq-TENTH-via-else-scale-eq-TENTH w ↦ sum-under _ c.args.group _ c.requires.1 c.requires.2 (scale-under _ c.requires.0 w.if-scale-eq-TENTH.false)
+]
 
 pub overflow_mul-result : goal.overflow_mul-result
 overflow_mul-result c = omega (arith, small c)
 
-pub overflow_add-result-2 : goal.overflow_add-result-2
-overflow_add-result-2 c = omega (arith, small c)
+pub overflow_add-result : goal.overflow_add-result
+overflow_add-result c = omega (arith, small c)
 
 pub returns : goal.returns
 returns c = let a = c.args in rw (lt-ltb 0 a.group (omega arith), lt-ltb (a.value + a.group * a.scale) (2 ^ 64) (small c))

@@ -5,7 +5,7 @@ use Rattle.whole.specs.Tests.{lt_yes, lt_no}
 use Rattle.whole.specs.Amounts.{amount-within}
 use Rattle.funds.specs.Funds.{with_money, cash_most}
 use Rattle.funds.specs.FundsLaws.{paid-in-full, paid-in-made}
-use Rattle.funds.specs.declared.Payment.TheVariants.{Made}
+use Rattle.std.specs.Prelude.{Ok}
 use Rattle.funds.specs.BoundLaws.{cash-within, margin-within}
 use Rattle.funds.proofs.pay_in.Goals as goal
 use Rattle.funds.proofs.pay_in.Goals.{Start}
@@ -28,5 +28,5 @@ returns-then-cash-f-gt-CASH_MOST c =
 
 pub returns : goal.returns
 returns c =
-    ap (λ cash. Made (with_money c.args.f cash c.args.f.margin)) (kept (cash c.before.before.before.before.before).reads tt).eq
+    ap (λ cash. Ok (with_money c.args.f cash c.args.f.margin)) (kept (cash c.before.before.before.before.before).reads tt).eq
     ∙ sym (paid-in-made c.args.f c.args.amount (lt_no {e = cash_most} refl (kept (both c.before.before.before.before.before).reads tt).eq c.if-cash-f-gt-CASH_MOST.false))

@@ -5,7 +5,7 @@ use Rattle.whole.specs.Tests.{lt_yes, lt_no}
 use Rattle.whole.specs.Amounts.{amount-within}
 use Rattle.funds.specs.Funds.{with_money}
 use Rattle.funds.specs.FundsLaws.{paid-out-default, paid-out-more, paid-out-made}
-use Rattle.funds.specs.declared.Payment.TheVariants.{Made}
+use Rattle.std.specs.Prelude.{Ok}
 use Rattle.funds.specs.BoundLaws.{cash-within}
 use Rattle.funds.proofs.pay_out.Goals as goal
 use Rattle.funds.proofs.pay_out.Goals.{Start}
@@ -27,5 +27,5 @@ overflow_sub-x c = fits (left c.before.before.before).reads tt
 pub returns : goal.returns
 returns c =
     let enough = lt_no (arg (cash-within c.requires.0) tt).eq (arg (amount-within c.requires.1) tt).eq c.if-cash-amount.false in
-    ap (λ cash. Made (with_money c.args.f cash c.args.f.margin)) (kept (left c.before.before.before).reads tt).eq
+    ap (λ cash. Ok (with_money c.args.f cash c.args.f.margin)) (kept (left c.before.before.before).reads tt).eq
     ∙ sym (paid-out-made c.args.f c.args.amount c.if-f.false enough)

@@ -5,7 +5,7 @@ use Rattle.whole.specs.Tests.{lt_yes, lt_no}
 use Rattle.whole.specs.Amounts.{amount-within}
 use Rattle.funds.specs.Funds.{with_money}
 use Rattle.funds.specs.FundsLaws.{released-default, released-more, released-made}
-use Rattle.funds.specs.declared.Payment.TheVariants.{Made}
+use Rattle.std.specs.Prelude.{Ok}
 use Rattle.funds.specs.BoundLaws.{cash-within, margin-within}
 use Rattle.funds.proofs.release.Goals as goal
 use Rattle.funds.proofs.release.Goals.{Start}
@@ -41,5 +41,5 @@ pub returns : goal.returns
 returns c =
     let e = c.before.before in
     let enough = lt_no (kept (above c.before.before.before.before.before.before.before).reads tt).eq (arg (amount-within c.requires.1) tt).eq c.if-margin-f.false in
-    ap₂ (λ cash margin. Made (with_money c.args.f cash margin)) (kept (cash c.before.before.before.before.before.before.before).reads tt).eq (kept (margin c.before.before.before.before.before.before.before).reads tt).eq
+    ap₂ (λ cash margin. Ok (with_money c.args.f cash margin)) (kept (cash c.before.before.before.before.before.before.before).reads tt).eq (kept (margin c.before.before.before.before.before.before.before).reads tt).eq
     ∙ sym (released-made c.args.f c.args.amount c.if-f.false enough)

@@ -1,22 +1,21 @@
+use Rattle.std.specs.Prelude.{Option}
 use mathlib.Core.Path.{◌≡◌, sym, ap, ap₂, ◌∙◌}
 use mathlib.Core.Bool.{true, ◌||◌}
 use mathlib.Core.List.{List}
 use Prim.Native.Nat.{ℕ, ◌+◌, ◌-◌, ◌≤◌}
 use native.Mathlib.Omega.{arith}
 use borrow.Author.Tests.{not-true, not-false}
-use borrow.Author.Rules.{rules}
 use lib.Dec.{eqb}
 use Rattle.lists.specs.Parts.{part, part-width}
-use Rattle.days.specs.declared.Day.{Day}
 use Rattle.days.specs.Days.{rising, is_working, next_working, is_on}
-use Rattle.calendar.specs.declared.listing.Listing.{Listing}
-use Rattle.calendar.specs.Listing.{listing}
+use Rattle.calendar.specs.Listing.{listing, known_codes}
+use Rattle.calendar.specs.ListingLaws.{codes-known, codes-unknown}
 use Rattle.memory.specs.declared.header_row.Header.{Header}
 use Rattle.standing.specs.SoundLaws.{exceptions_of, sound-long, sound-members, sound-listed, sound-exceptions, exceptions-rise}
 use Rattle.opening.specs.Opens.{not_next_as}
 use Rattle.opening.specs.OpenLaws.{shut_at, works_at, expected_at, next_at, last-day, answered-shut, answered-off, answered-not-next, answered-unknown, answered-open}
 use Rattle.opening.proofs.open_day.Goals as goal
-use Rattle.opening.proofs.open_day.Goals.{After-is_next, After-is_shut, After-is_working, After-listed_on-listing, After-load_header-h, After-next_working-expected, Else-not-is_next, Else-not-is_shut, Else-not-is_working, Start}
+use Rattle.opening.proofs.open_day.Goals.{After-is_next, After-is_shut, After-is_working, After-listed_on, After-load_header-h, After-next_working-expected, Else-not-is_next, Else-not-is_shut, Else-not-is_working, Start}
 
 -- ---- from a place back to the one before it that is asked for
 abbrev start : After-load_header-h → Start
@@ -69,10 +68,10 @@ expected-is c =
 next-is : (c : After-is_next) → let h = header2 (else2 (goal.at.After-is_next c).After-next_working-expected) in c.is_next.result ≡ next_at (memory h) (asked h)
 next-is c =
     let h = header2 (else2 (goal.at.After-is_next c).After-next_working-expected) in
-    c.is_next.ensures ∙ ap₂ (λ (x : Header) (a : Day). eqb x.point 1 || is_on (asked h) a) h.load_header-h.ensures (expected-is (goal.at.After-is_next c).After-next_working-expected)
+    c.is_next.ensures ∙ ap₂ (λ (x : Header) (a : Option ℕ). eqb x.point 1 || is_on (asked h) a) h.load_header-h.ensures (expected-is (goal.at.After-is_next c).After-next_working-expected)
 
-listing-is : (c : After-listed_on-listing) → let h = header3 (goal.at.After-listed_on-listing c).Else-not-is_next in c.listed_on-listing.result ≡ listing (works_at (memory h)) (asked h)
-listing-is c = let h = header3 (goal.at.After-listed_on-listing c).Else-not-is_next in c.listed_on-listing.ensures ∙ ap (λ e. listing (is_working e) (asked h)) (lent h)
+listing-is : (c : After-listed_on) → let h = header3 (goal.at.After-listed_on c).Else-not-is_next in c.listed_on.result ≡ known_codes (listing (works_at (memory h)) (asked h))
+listing-is c = let h = header3 (goal.at.After-listed_on c).Else-not-is_next in c.listed_on.ensures ∙ ap (λ e. known_codes (listing (is_working e) (asked h))) (lent h)
 
 -- ---- a test that was passed
 shut : (c : Else-not-is_shut) → shut_at (memory (header1 c)) ≡ true
@@ -115,14 +114,14 @@ returns-then-not-is_next c =
     rw (c.not_next.ensures ∙ ap not_next_as (expected-is (goal.at.returns-then-not-is_next c).After-next_working-expected))
     (answered-not-next (start (header2 e)).requires _ (shut (else1 (goal.at.Else-not-is_working e).After-is_working)) (works e) (sym (next-is (goal.at.returns-then-not-is_next c).After-is_next) ∙ not-true _ c.if-not-is_next.true-raw))
 
-pub listed_on-listing-requires : goal.listed_on-listing-requires
-listed_on-listing-requires c = rises (header3 c)
+pub listed_on-requires : goal.listed_on-requires
+listed_on-requires c = rises (header3 c)
 
-pub returns-then-not-listing : goal.returns-then-not-listing
-returns-then-not-listing c =
-    let e2 = else2 (goal.at.returns-then-not-listing c).After-next_working-expected in
-    answered-unknown (start (header2 e2)).requires _ (shut (else1 (goal.at.Else-not-is_working e2).After-is_working)) (works e2) (next (goal.at.returns-then-not-listing c).Else-not-is_next)
-    (sym (ap (λ (x : Listing). x.known) (listing-is (goal.at.returns-then-not-listing c).After-listed_on-listing)) ∙ not-true _ c.if-not-listing.true)
+pub returns-in_default : goal.returns-in_default
+returns-in_default c =
+    let e2 = else2 (goal.at.returns-in_default c).After-next_working-expected in
+    answered-unknown (start (header2 e2)).requires _ (shut (else1 (goal.at.Else-not-is_working e2).After-is_working)) (works e2) (next (goal.at.returns-in_default c).Else-not-is_next)
+    (codes-unknown _ (sym (listing-is (goal.at.returns-in_default c).After-listed_on) ∙ c.in_default.is))
 
 pub relist-requires : goal.relist-requires
 relist-requires c =
@@ -138,7 +137,8 @@ pub returns : goal.returns
 returns c =
     let e2 = else2 (goal.at.returns c).After-next_working-expected in
     let h = header2 e2 in
-    rw (c.store_header.ensures, c.open_header-g.ensures, h.load_header-h.ensures)
+    let known = codes-known _ _ (sym (listing-is (goal.at.returns c).After-listed_on) ∙ c.in-Some.is) in
+    rw (c.store_header.ensures, c.open_header.ensures, h.load_header-h.ensures)
     (answered-open (start h).requires _ (shut (else1 (goal.at.Else-not-is_working e2).After-is_working)) (works e2) (next (goal.at.returns c).Else-not-is_next)
-    (sym (ap (λ (x : Listing). x.known) (listing-is (goal.at.returns c).After-listed_on-listing)) ∙ not-false _ c.if-not-listing.false)
-    (rw (ap (λ (x : Listing). x.codes) (listing-is (goal.at.returns c).After-listed_on-listing)) at c.relist.ensures))
+    known.0
+    (rw (sym known.1) at c.relist.ensures))

@@ -1,4 +1,3 @@
-use borrow.Author.Rules.{rules}
 use Rattle.payments.proofs.may_pay.Goals as goal
 
 pub returns-in-In : goal.returns-in-In

@@ -1,6 +1,5 @@
 use mathlib.Core.Path.{◌≡◌, sym, ◌∙◌}
 use mathlib.Core.Bool.{true}
-use borrow.Author.Rules.{rules}
 use borrow.Author.Tests.{not-true, not-false}
 use Rattle.places.proofs.place_of.Goals as goal
 
@@ -17,4 +16,4 @@ pub returns : goal.returns
 returns c =
     let allowed : c.args.allowed ≡ true =
     not-false c.args.allowed c.if-not-allowed.false-raw in
-    rw (allowed, sym c.find_account.ensures ∙ c.in-At.is)
+    rw (allowed, sym c.find_account.ensures ∙ c.in-Some.is)

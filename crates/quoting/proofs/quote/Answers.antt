@@ -22,7 +22,7 @@ use Rattle.hours.specs.Searched.{code-at, code-none}
 use Rattle.quoting.specs.Quotes.{has_room, quoted_row}
 use Rattle.quoting.specs.QuoteLaws.{shut, unlisted, out-of-hours, too-early, full, done, row_small, contract-in, tally-sound, written}
 use Rattle.quoting.proofs.quote.Goals as goal
-use Rattle.quoting.proofs.quote.Goals.{After-find_contract, After-has_room, After-is_open, After-load_contract-x, After-load_header-h, After-with_quote-x, Else-not-in_hours, Else-not-is_open, Else-time-h, In-At, Start}
+use Rattle.quoting.proofs.quote.Goals.{After-find_contract, After-has_room, After-is_open, After-load_contract-x, After-load_header-h, After-with_quote-x, Else-not-in_hours, Else-not-is_open, Else-time-h, In-Some, Start}
 
 abbrev quotation : Start → Quote
 quotation s = record { time = s.args.time; code = s.args.code; side = s.args.side; rate = s.args.rate }
@@ -34,14 +34,14 @@ book s = view s.args.counts.now s.args.money.now
 abbrev start : After-load_header-h → Start
 start c = (goal.at.After-load_header-h c).Start
 
-abbrev found : In-At → After-find_contract
-found c = (goal.at.In-At c).After-find_contract
+abbrev found : In-Some → After-find_contract
+found c = (goal.at.In-Some c).After-find_contract
 
-abbrev before-k : In-At → Else-not-is_open
+abbrev before-k : In-Some → Else-not-is_open
 before-k c = (goal.at.After-find_contract (found c)).Else-not-is_open
 
-abbrev before-hours : Else-not-in_hours → In-At
-before-hours c = (goal.at.Else-not-in_hours c).In-At
+abbrev before-hours : Else-not-in_hours → In-Some
+before-hours c = (goal.at.Else-not-in_hours c).In-Some
 
 abbrev before-clock : Else-time-h → Else-not-in_hours
 before-clock c = (goal.at.Else-time-h c).Else-not-in_hours
@@ -52,7 +52,7 @@ before-load c = (goal.at.After-load_contract-x c).Else-time-h
 abbrev start-live : Else-not-is_open → Start
 start-live c = start (goal.at.Else-not-is_open c).After-load_header-h
 
-abbrev start-k : In-At → Start
+abbrev start-k : In-Some → Start
 start-k c = start-live (before-k c)
 
 abbrev start-clock : Else-time-h → Start
@@ -68,10 +68,10 @@ open_is c = sym (c.is_open.ensures ∙ ap (λ (x : Header). eqb x.point 2 || eqb
 live : (c : Else-not-is_open) → is_open (book (start-live c)).today.point ≡ true
 live c = open_is (goal.at.Else-not-is_open c).After-is_open ∙ not-false _ c.if-not-is_open.false-raw
 
-row : (c : In-At) → let s = start-k c in Stands (book s).contracts.codes s.args.code c.in-At.k
+row : (c : In-Some) → let s = start-k c in Stands (book s).contracts.codes s.args.code c.in-Some.k
 row c =
     let h = (start-k c).requires.0 in
-    code-at (sound-kept h) (sound-holds h) _ _ (sym (found c).find_contract.ensures ∙ c.in-At.is)
+    code-at (sound-kept h) (sound-holds h) _ _ (sym (found c).find_contract.ensures ∙ c.in-Some.is)
 
 hours : (c : Else-not-in_hours) → in_hours (start-k (before-hours c)).args.time ≡ true
 hours c = sym c.in_hours.ensures ∙ not-false _ c.if-not-in_hours.false-raw
@@ -121,8 +121,8 @@ returns-in_default c =
 
 pub returns-then-not-in_hours : goal.returns-then-not-in_hours
 returns-then-not-in_hours c =
-    let s = start-k (goal.at.returns-then-not-in_hours c).In-At in
-    out-of-hours s.requires.0 (quotation s) (live (before-k (goal.at.returns-then-not-in_hours c).In-At)) (row (goal.at.returns-then-not-in_hours c).In-At) (sym c.in_hours.ensures ∙ not-true _ c.if-not-in_hours.true-raw)
+    let s = start-k (goal.at.returns-then-not-in_hours c).In-Some in
+    out-of-hours s.requires.0 (quotation s) (live (before-k (goal.at.returns-then-not-in_hours c).In-Some)) (row (goal.at.returns-then-not-in_hours c).In-Some) (sym c.in_hours.ensures ∙ not-true _ c.if-not-in_hours.true-raw)
 
 pub returns-then-time-h : goal.returns-then-time-h
 returns-then-time-h c =
@@ -177,7 +177,7 @@ returns c =
     let q = before-load (goal.at.returns c).After-load_contract-x in
     let p = before-hours (before-clock q) in
     let s = start-clock q in
-    let k = p.in-At.k in
+    let k = p.in-Some.k in
     done s.requires.0 (quotation s) (live (before-k p)) (row p) (hours (before-clock q)) (clock q)
     (room (goal.at.returns c).After-has_room ∙ not-false _ c.if-not-has_room.false-raw)
     (written s.requires.0 (quotation s) (row p) c.load_contract-x.ensures (before-k p).load_header-h.ensures

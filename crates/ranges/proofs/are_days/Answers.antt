@@ -1,22 +1,16 @@
--- The answer is whether what is left are days.
-use mathlib.Core.Path.{refl, sym, ◌∙◌}
-use borrow.Author.Tests.{le-leb, lt-leb}
-use Rattle.lists.specs.Passing.{all_more, all-stop, all_end}
+-- The library's test of all exceptions.
+use Rattle.std.proofs.Common.{◌∙◌, rules}
+use borrow.Author.Tests.{tests}
+use Rattle.std.proofs.lemmas.Iterator.{YieldsList-from_slice}
+use Rattle.std.proofs.lemmas.Iterator.Search.{all_from_yields_List}
 use Rattle.fields.specs.Fields.{day}
+use Rattle.fields.specs.FieldLaws.{all-listed}
 use Rattle.ranges.specs.Ranges.{within_ceilings}
 use Rattle.ranges.specs.RangeLaws.{day-written}
 use Rattle.ranges.proofs.are_days.Goals as goal
 
-pub loop-i-init : goal.loop-i-init
-loop-i-init c = refl
-
-pub returns-then-exceptions-i-gt3652 : goal.returns-then-exceptions-i-gt3652
-returns-then-exceptions-i-gt3652 c =
-    sym (c.loop-i.invariant ∙ all-stop (within_ceilings day) _ _ c.loop-i-test.true (day-written _ ∙ lt-leb _ 3652 c.if-exceptions-i-gt3652.true))
-
-pub loop-i-preserved : goal.loop-i-preserved
-loop-i-preserved c =
-    c.loop-i.invariant ∙ all_more (within_ceilings day) _ _ c.loop-i-test.true (day-written _ ∙ le-leb _ 3652 c.if-exceptions-i-gt3652.false)
-
 pub returns : goal.returns
-returns c = sym (c.loop-i.invariant ∙ all_end (within_ceilings day) _ _ c.loop-i-test.false)
+returns c =
+    all_from_yields_List (within_ceilings day) _ _ c.all.result c.all.ensures.ran
+    (YieldsList-from_slice c.args.exceptions.now cc) (λ x b q k. search (rules, tests, day-written))
+    ∙ all-listed (within_ceilings day) c.args.exceptions.now

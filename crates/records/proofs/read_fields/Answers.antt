@@ -1,53 +1,61 @@
 -- The row so far holds the numbers passed, with zeros after them.
-use mathlib.Core.Path.{◌≡◌, refl, sym, ap, ◌∙◌}
-use mathlib.Core.List.{[], ◌∷◌, ◌++◌, append-nil}
-use Prim.Native.Nat.{◌+◌, ◌-◌}
-use native.Mathlib.Omega.{arith}
-use lib.ListN.{drop, length-append}
+use Rattle.std.proofs.Common.{◌≡◌, refl, sym, ap, ◌∙◌, List, [], ◌∷◌, ◌++◌, append-nil, ℕ, ◌+◌, ◌-◌, ◌≤◌, length, take, drop, replicate, length-append, drop_of_length-le, arith}
+use Rattle.std.proofs.lemmas.List.{drop-replicate, length-take-le}
 use Rattle.numbers.specs.Several.{many}
-use Rattle.decoding.specs.PlaceLaws.{value-is, bad-is, many-bad, joined, joined-nil, joined_step, end-here}
+use Rattle.decoding.specs.PlaceLaws.{value-is, bad-is, many-bad, joined, joined-nil, joined_step, end-here, store-next}
 use Rattle.records.specs.Steps.{filled}
-use Rattle.records.specs.ReadingLaws.{store}
 use Rattle.records.proofs.read_fields.Goals as goal
 
-pub loop-i-init : goal.loop-i-init
-loop-i-init c = let z : c.args.n - 0 ≡ c.args.n = omega arith in ([], omega arith, c.requires.0, refl, refl, rw z (joined-nil (many c.args.n (drop c.args.at c.args.bytes.now))))
+-- the row's first fields, before they are read
+abbrev zeros : ℕ → List ℕ
+zeros n = take n (replicate 13 0)
 
-pub returns-in_default : goal.returns-in_default
-returns-in_default c =
-    let l = c.before.before.before.before in
+long : (n : ℕ) → n ≤ 13 → length (zeros n) ≡ n
+long n h = length-take-le n (replicate 13 0) h
+
+pub loop-value-init : goal.loop-value-init
+loop-value-init c =
+    let a = c.args in
+    let all : a.n - 0 ≡ a.n = omega arith in
+    ([], c.requires.0, refl, refl, rw all (joined-nil (many a.n (drop a.at a.bytes.now))))
+
+pub returns-in_err-x : goal.returns-in_err-x
+returns-in_err-x c =
     let s = c.args.bytes.now in
     let n = c.args.n in
-    let i = c.loop-i.i in
-    let p = c.loop-i.place in
-    let v = c.loop-i.invariant in
-    let a = v.0 in
-    sym (ap (filled s) (v.5 ∙ ap (joined a) (many-bad (n - i) (drop p s) (omega arith) (bad-is s p (sym c.read_number.ensures ∙ c.in_default.is)))))
+    let p = c.loop-value.place in
+    let v = c.loop-value.invariant in
+    let left = n - c.loop-value.value-index in
+    c.from_residual.ensures ∙ sym (ap (filled s) (v.4 ∙ ap (joined v.0) (many-bad left (drop p s) (omega (arith, long n c.requires.1)) (bad-is s p (sym c.in_err-x.ensures)))))
 
-pub loop-i-preserved : goal.loop-i-preserved
-loop-i-preserved c =
-    let l = c.before.before.before.before.before in
+pub loop-value-preserved : goal.loop-value-preserved
+loop-value-preserved c =
     let s = c.args.bytes.now in
     let n = c.args.n in
-    let i = c.loop-i.i in
-    let p = c.loop-i.place in
-    let v = c.loop-i.invariant in
+    let i = c.loop-value.value-index in
+    let p = c.loop-value.place in
+    let v = c.loop-value.invariant in
     let a = v.0 in
-    let x = c.in-Value.x in
-    let next = c.in-Value.next in
-    let m = value-is s p x next (sym c.read_number.ensures ∙ c.in-Value.is) in
-    let z : n - i - 1 ≡ n - (i + 1) = omega arith in
-    (a ++ (x ∷ []), omega arith, m.inside, length-append a (x ∷ []) ∙ omega (arith, v.3), rw v.4 (store a i x (omega arith) v.3), v.5 ∙ joined_step a s (n - i) p x next (omega arith) m ∙ ap (λ k. joined (a ++ (x ∷ [])) (many k (drop next s))) z)
+    let x = c.in_ok-x.x in
+    let next = c.in_ok-x.next in
+    let m = value-is s p x next (sym c.in_ok-x.ensures) in
+    let fewer : n - i - 1 ≡ n - (i + 1) = omega arith in (
+      a ++ (x ∷ []),
+      m.inside,
+      length-append a (x ∷ []) ∙ omega (arith, v.2),
+      rw v.3 (store-next a (zeros n) i x v.2 c.loop-value-test.true),
+      v.4 ∙ joined_step a s (n - i) p x next (omega (arith, long n c.requires.1)) m ∙ ap (λ k. joined (a ++ (x ∷ [])) (many k (drop next s))) fewer,
+    )
 
 pub returns : goal.returns
 unfolding many
 returns c =
-    let l = c.before in
     let s = c.args.bytes.now in
     let n = c.args.n in
-    let i = c.loop-i.i in
-    let p = c.loop-i.place in
-    let v = c.loop-i.invariant in
+    let i = c.loop-value.value-index in
+    let v = c.loop-value.invariant in
     let a = v.0 in
-    let z : n - i ≡ 0 = omega arith in
-    rw (v.5, z, append-nil a, end-here s p v.2, v.3, v.4)
+    let all : i ≡ n = omega (arith, long n c.requires.1) in
+    let none : n - i ≡ 0 = omega arith in
+    let past : length (zeros n) ≤ i = c.loop-value-test.false in
+    rw (v.4, none, append-nil a, end-here s c.loop-value.place v.1, v.2, v.3, drop_of_length-le (zeros n) past, append-nil a, drop-replicate {X = ℕ} n 13 0, all)

@@ -1,14 +1,9 @@
-use mathlib.Core.Path.{◌≡◌}
-use mathlib.Core.List.{List, ◌++◌}
-use Prim.Native.Nat.{ℕ, ◌-◌, ◌≤◌}
-use lib.ListN.{length, drop, replicate}
+use Rattle.std.proofs.Common.{◌≡◌, List, ◌++◌, ℕ, ◌-◌, ◌≤◌, length, drop}
 use Rattle.numbers.specs.Several.{many}
 use Rattle.decoding.specs.PlaceLaws.{joined}
 use Rattle.records.proofs.read_fields.Given as goal
 
-abbrev pub invariant-loop-i : goal.invariant-loop-i
-invariant-loop-i l =
-    (a : List ℕ) × (l.i ≤ l.n) × (l.place ≤ length l.bytes) × (length a ≡ l.i) × (l.values ≡ a ++ replicate (13 - l.i) 0) × (many l.n (drop l.at l.bytes) ≡ joined a (many (l.n - l.i) (drop l.place l.bytes)))
-
-abbrev pub decreases-loop-i : goal.decreases-loop-i
-decreases-loop-i l = l.n - l.i
+abbrev pub invariant-loop-value : goal.invariant-loop-value
+invariant-loop-value l =
+    (a : List ℕ) × (l.place ≤ length l.bytes) × (length a ≡ l.value-index) × (l.value-items ≡ a ++ drop l.value-index l.initial.value-items)
+    × (many l.n (drop l.at l.bytes) ≡ joined a (many (l.n - l.value-index) (drop l.place l.bytes)))

@@ -9,7 +9,7 @@ use Rattle.records.specs.ReadingLaws.{rest-none}
 use Rattle.records.proofs.read_rest.Goals as goal
 
 pub returns-then-bytes-next : goal.returns-then-bytes-next
-returns-then-bytes-next c = let a = c.args in c.malformed.ensures ∙ sym (rest-none a.bytes.now a.next (omega arith))
+returns-then-bytes-next c = let a = c.args in sym (rest-none a.bytes.now a.next (omega arith))
 
 pub returns : goal.returns
 returns c = let a = c.args in c.read_record.ensures ∙ ap (λ (l : List ℕ). reading_at l 0) (part-rest a.next a.bytes.now)

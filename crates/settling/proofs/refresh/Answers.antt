@@ -1,4 +1,3 @@
-use borrow.Author.Rules.{rules}
 use Rattle.model.specs.Calls.{refresh}
 use Rattle.standing.specs.SoundLaws.{sound-long}
 use Rattle.settling.specs.SettlingLaws.{refresh-asks, refused, accepted}

@@ -1,5 +1,5 @@
 use mathlib.Core.Path.{◌≡◌, sym, ap, ap₂, ◌∙◌}
-use Prim.Native.Nat.{ℕ, ◌+◌, ◌-◌, ◌<◌, ◌≤◌}
+use Prim.Native.Nat.{ℕ, ◌+◌, ◌<◌}
 use native.Mathlib.Omega.{arith}
 use lib.IntN.{◌-ℤ◌}
 use lib.ListN.{length, get_or}
@@ -11,14 +11,13 @@ use Rattle.funds.specs.declared.Settlement.{Settlement}
 use Rattle.accounts.specs.declared.Account.{Account}
 use Rattle.memory.specs.declared.header_row.Header.{Header}
 use Rattle.memory.specs.Layout.{Long}
-use Rattle.memory.specs.Memory.{Holds}
 use Rattle.model.specs.Book.{Book}
 use Rattle.model.specs.Effects.{paid_to}
 use Rattle.model.specs.Kept.{Kept}
 use Rattle.standing.specs.Standing.{rows_of, view}
 use Rattle.standing.specs.StandingLaws.{rows-shaped, sound-kept, sound-holds}
 use Rattle.standing.specs.SoundLaws.{sound-long, sound-header, sound-house}
-use Rattle.standing.specs.WalkLaws.{walked, walk_start, walk-long, walk-member, walk_step}
+use Rattle.standing.specs.WalkLaws.{walk_start, walk-long, walk-member, walk_step}
 use Rattle.settling.specs.SettlingLaws.{settled_row, settled-six, house_after, house-start, house-step, house-within, turn-funds, settle-end}
 use Rattle.settling.proofs.settle_members.Goals as goal
 use Rattle.settling.proofs.settle_members.Goals.{After-struct_told-1, At-loop-i, In-loop-i, Start}
@@ -37,7 +36,7 @@ module _ (s : Start) where
 -- ---- a turn
 long : (c : At-loop-i) → Long c.loop-i.counts c.loop-i.money
 long c =
-    walk-long (rows_of (book (goal.at.At-loop-i c).Start)) (rows-shaped (is-kept (goal.at.At-loop-i c).Start)) settled_row settled-six c.loop-i.i c.loop-i.invariant.1
+    walk-long (rows_of (book (goal.at.At-loop-i c).Start)) (rows-shaped (is-kept (goal.at.At-loop-i c).Start)) settled_row settled-six c.loop-i.i c.loop-i.invariant.0
 
 below : (c : In-loop-i) → c.loop-i.i < length (book (goal.at.In-loop-i c).Start).accounts.members
 below c = omega (arith, many (goal.at.In-loop-i c).Start)
@@ -50,7 +49,6 @@ load_house-house-requires c = (sound-long c.requires.0).money
 
 pub loop-i-init : goal.loop-i-init
 loop-i-init c = (
-  omega arith,
   walk_start settled_row (sound-holds c.requires.0),
   told c.load_house-house.result c.load_house-house.type_inv ∙ c.load_house-house.ensures ∙ sound-house c.requires.0 ∙ sym (house-start (book (goal.at.loop-i-init c).Start)),
 )
@@ -62,7 +60,7 @@ pub settled-s-requires : goal.settled-s-requires
 settled-s-requires c =
     let l = c.loop-i in
     rw c.load_account-a.ensures
-    (turn-funds (is-kept (goal.at.settled-s-requires c).Start) settled_row settled-six l.i l.invariant.1 (below (goal.at.settled-s-requires c).In-loop-i))
+    (turn-funds (is-kept (goal.at.settled-s-requires c).Start) settled_row settled-six l.i l.invariant.0 (below (goal.at.settled-s-requires c).In-loop-i))
 
 -- the house after this turn
 module _ (c : After-struct_told-1) where
@@ -84,10 +82,10 @@ module _ (c : After-struct_told-1) where
       ∙ ap (λ (x : Settlement). x.paid) c.settled-s.ensures
       ∙ ap (λ (a : Account). (settled a.funds).paid)
       (c.load_account-a.ensures
-      ∙ walk-member (is-kept start) settled_row settled-six place turn.loop-i.invariant.1 (below turn))
+      ∙ walk-member (is-kept start) settled_row settled-six place turn.loop-i.invariant.0 (below turn))
 
   house-is : to_z w64 turn.loop-i.house-bits -ℤ to_z w64 (of_z w64 answer.paid) ≡ house_after (book start) (place + 1)
-  house-is = ap₂ ◌-ℤ◌ turn.loop-i.invariant.2 paid-is ∙ house-step (book start) place (below turn)
+  house-is = ap₂ ◌-ℤ◌ turn.loop-i.invariant.1 paid-is ∙ house-step (book start) place (below turn)
 
   house-fits : SFits w64 (house_after (book start) (place + 1))
   house-fits = fits64 (house-within (is-kept start) (place + 1)) tt
@@ -98,24 +96,20 @@ overflow_sub-house c = fits-is (house-is c) (house-fits c)
 pub store_account-requires : goal.store_account-requires
 store_account-requires c = let t = turn (goal.at.store_account-requires c).After-struct_told-1 in (long (goal.at.In-loop-i t).At-loop-i, small t)
 
-pub overflow_add-i : goal.overflow_add-i
-overflow_add-i c = omega (arith, small (turn (goal.at.overflow_add-i c).After-struct_told-1))
-
 -- an account with what its settlement leaves it
 abbrev paid_row : Account → Settlement → Account
 paid_row a x = record { number = a.number; holdings = a.holdings; funds = x.funds }
 
 pub loop-i-preserved : goal.loop-i-preserved
 loop-i-preserved c =
-    let s = start (goal.at.loop-i-preserved c).After-struct_told-1 in
-    let more : place (goal.at.loop-i-preserved c).After-struct_told-1 + 1 ≤ s.args.h.members = omega (arith, below (turn (goal.at.loop-i-preserved c).After-struct_told-1), many s) in (
-      more,
-      walk_step (rows_of (book s)) (rows-shaped (is-kept s)) settled_row settled-six (place (goal.at.loop-i-preserved c).After-struct_told-1) (turn (goal.at.loop-i-preserved c).After-struct_told-1).loop-i.invariant.1 (small (turn (goal.at.loop-i-preserved c).After-struct_told-1))
+    let u = (goal.at.loop-i-preserved c).After-struct_told-1 in
+    let g = is-kept (start u) in (
+      walk_step (rows_of (book (start u))) (rows-shaped g) settled_row settled-six (place u) (turn u).loop-i.invariant.0 (small (turn u))
           (ap (paid_row c.load_account-a.result) c.settled-s.ensures
           ∙ ap settled_row c.load_account-a.ensures)
           c.store_account.ensures.0
           c.store_account.ensures.1,
-      back_is (house-is (goal.at.loop-i-preserved c).After-struct_told-1) (house-fits (goal.at.loop-i-preserved c).After-struct_told-1),
+      back_is (house-is u) (house-fits u),
     )
 
 -- ---- the end
@@ -125,17 +119,8 @@ store_house-requires c = (long (goal.at.store_house-requires c).At-loop-i).money
 pub store_header-requires : goal.store_header-requires
 store_header-requires c = (long (goal.at.store_header-requires c).At-loop-i).counts
 
-pub shape_of-counts : goal.shape_of-counts
-shape_of-counts c =
-    c.store_header.auto.counts ∙ (long (goal.at.shape_of-counts c).At-loop-i).counts ∙ sym (sound-long c.requires.0).counts
-
-pub shape_of-money : goal.shape_of-money
-shape_of-money c =
-    c.store_house.auto.money ∙ (long (goal.at.shape_of-money c).At-loop-i).money
-    ∙ sym (sound-long c.requires.0).money
-
 pub returns : goal.returns
 returns c =
-    settle-end (is-kept (goal.at.returns c).Start) c.loop-i.i (omega (arith, many (goal.at.returns c).Start)) c.loop-i.invariant.1 (c.requires.1 ∙ sound-header c.requires.0) c.loop-i.invariant.2
+    settle-end (is-kept (goal.at.returns c).Start) c.loop-i.i (omega (arith, many (goal.at.returns c).Start)) c.loop-i.invariant.0 (c.requires.1 ∙ sound-header c.requires.0) c.loop-i.invariant.1
     c.store_header.ensures
     c.store_house.ensures

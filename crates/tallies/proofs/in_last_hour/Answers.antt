@@ -2,10 +2,10 @@ use borrow.Author.Tests.{lt-leb, le-leb}
 use Rattle.tallies.specs.Day.{in_last_hour, window_start}
 use Rattle.tallies.proofs.in_last_hour.Goals as goal
 
-pub returns-then-time-lt-WINDOW_START : goal.returns-then-time-lt-WINDOW_START
+pub returns-then-time-ge-WINDOW_START : goal.returns-then-time-ge-WINDOW_START
 unfolding in_last_hour
-returns-then-time-lt-WINDOW_START c = rw (lt-leb window_start c.args.time c.if-time-lt-WINDOW_START.true)
+returns-then-time-ge-WINDOW_START c = rw (le-leb window_start c.args.time c.if-time-ge-WINDOW_START.true)
 
-pub returns : goal.returns
+pub returns-else-time-ge-WINDOW_START : goal.returns-else-time-ge-WINDOW_START
 unfolding in_last_hour
-returns c = rw (le-leb window_start c.args.time c.if-time-lt-WINDOW_START.false)
+returns-else-time-ge-WINDOW_START c = rw (lt-leb window_start c.args.time c.if-time-ge-WINDOW_START.false)

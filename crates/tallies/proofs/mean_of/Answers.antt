@@ -8,30 +8,22 @@ use Rattle.tallies.specs.Tally.{none}
 use Rattle.tallies.specs.MeanLaws.{mean-none, mean-step, each_take, fair-of, fair-wider}
 use Rattle.tallies.proofs.mean_of.Goals as goal
 
-pub loop-i-init : goal.loop-i-init
-loop-i-init c = (sym mean-none, omega arith)
+pub loop-w-init : goal.loop-w-init
+loop-w-init c = sym mean-none
 
-pub mean_with-m-requires : goal.mean_with-m-requires
-mean_with-m-requires c =
-    let l = c.loop-i in
-    let s = c.before.before.before in
-    let ws = s.args.latest in
-    let passed = take l.i ws in
-    let few : length passed ≤ 5 = omega (arith, length-take l.i ws) in
-    (rw l.invariant.0 (fair-wider (mean_of passed) (fair-of passed (each_take l.i ws s.requires.1)) (omega arith)), s.requires.1.at l.i)
+pub with_rate-m-requires : goal.with_rate-m-requires
+with_rate-m-requires c =
+    let i = c.loop-w.w-index in
+    let ws = c.args.latest in
+    let passed = take i ws in
+    let few : length passed ≤ 5 = omega (arith, length-take i ws, c.requires.0, c.loop-w-test.true) in
+    (rw c.loop-w.invariant (fair-wider (mean_of passed) (fair-of passed (each_take i ws c.requires.1)) (omega arith)), c.requires.1.at i)
 
-pub loop-i-preserved : goal.loop-i-preserved
-loop-i-preserved c =
-    let l = c.loop-i in
-    let s = c.before.before.before.before in (
-      c.mean_with-m.ensures
-          ∙ ap (λ m. mean_with m (get_or s.args.latest l.i none)) l.invariant.0
-          ∙ sym (mean-step s.args.latest l.i (omega (arith, s.requires.0))),
-      omega arith,
-    )
+pub loop-w-preserved : goal.loop-w-preserved
+loop-w-preserved c =
+    let i = c.loop-w.w-index in
+    let ws = c.args.latest in
+    c.with_rate-m.ensures ∙ ap (λ m. mean_with m (get_or ws i none)) c.loop-w.invariant ∙ sym (mean-step ws i (omega (arith, c.requires.0, c.loop-w-test.true)))
 
 pub returns : goal.returns
-returns c =
-    let l = c.loop-i in
-    let s = c.before.before in
-    l.invariant.0 ∙ ap mean_of (take_all l.i s.args.latest (omega (arith, s.requires.0, c.loop-i-test.false)))
+returns c = c.loop-w.invariant ∙ ap mean_of (take_all c.loop-w.w-index c.args.latest (omega (arith, c.requires.0, c.loop-w-test.false)))

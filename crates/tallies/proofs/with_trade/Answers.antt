@@ -39,8 +39,8 @@ returns-then-in_last_hour c =
     ∙ sym (trade-late s.args.t s.args.time (traded s)
     (sym c.in_last_hour.ensures ∙ c.if-in_last_hour.true))
 
-pub returns : goal.returns
-returns c =
+pub returns-else-in_last_hour : goal.returns-else-in_last_hour
+returns-else-in_last_hour c =
     let d = c.before.before in
     let s = d.before in
     added d ∙ sym (trade-early s.args.t s.args.time (traded s)

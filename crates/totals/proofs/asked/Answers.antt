@@ -5,14 +5,14 @@ use native.Mathlib.Omega.{arith}
 use lib.IntN.{pos, nat_abs}
 use Rattle.whole.specs.Machine.{arg, fits64, unsigned}
 use Rattle.totals.proofs.asked.Goals as goal
-use Rattle.totals.proofs.asked.Goals.{After-size-lots}
+use Rattle.totals.proofs.asked.Goals.{After-size}
 
-sized : (c : After-size-lots) → c.size-lots.result ≡ nat_abs c.args.p.net
-sized c = c.size-lots.ensures ∙ ap nat_abs (arg c.requires.0 tt).eq
+sized : (c : After-size) → c.size.result ≡ nat_abs c.args.p.net
+sized c = c.size.ensures ∙ ap nat_abs (arg c.requires.0 tt).eq
 
-small : (c : After-size-lots) → c.size-lots.result * c.args.margin ≤ 2100000000000
+small : (c : After-size) → c.size.result * c.args.margin ≤ 2100000000000
 small c =
-    let lots : c.size-lots.result ≤ 21000 = rw (sized c) c.requires.0.size in
+    let lots : c.size.result ≤ 21000 = rw (sized c) c.requires.0.size in
     mul-le-mul lots c.requires.1
 
 pub overflow_mul-result : goal.overflow_mul-result

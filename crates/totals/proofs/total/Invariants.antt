@@ -1,14 +1,10 @@
 use mathlib.Core.Path.{◌≡◌}
-use Prim.Native.Nat.{◌-◌, ◌≤◌}
-use lib.ListN.{take}
+use lib.ListN.{length, take}
 use Rattle.lists.specs.Zipped.{zipped}
 use Rattle.whole.specs.Sums.{sum_z}
 use Rattle.totals.specs.Totals.{asked}
 use Rattle.totals.proofs.total.Given as goal
 
 -- the sum over the rows that the loop has passed
-abbrev pub invariant-loop-row : goal.invariant-loop-row
-invariant-loop-row l = (l.sum ≡ sum_z (take l.row (zipped asked l.positions l.margins))) × (l.row ≤ 6)
-
-abbrev pub decreases-loop-row : goal.decreases-loop-row
-decreases-loop-row l = 6 - l.row
+abbrev pub invariant-loop-p : goal.invariant-loop-p
+invariant-loop-p l = l.sum ≡ sum_z (take (length l.yielded) (zipped asked l.fn.positions l.fn.margins))

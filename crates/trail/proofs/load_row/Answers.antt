@@ -1,6 +1,5 @@
 use mathlib.Core.Path.{ap₂, ◌∙◌}
 use Prim.Native.Nat.{◌*◌}
-use borrow.Author.Rules.{rules}
 use Rattle.lists.specs.Parts.{part, part-width}
 use Rattle.trail.specs.Rows.{row_of}
 use Rattle.trail.proofs.load_row.Goals as goal

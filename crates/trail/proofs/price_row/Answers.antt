@@ -1,6 +1,5 @@
 use mathlib.Core.Path.{◌≡◌, sym, ap, subst, ◌∙◌}
 use mathlib.Core.Bool.{true, false}
-use borrow.Author.Rules.{rules}
 use borrow.Author.Tests.{eq-eqb, ne_eqb}
 use lib.Dec.{eqb}
 use lib.ListN.{set}
@@ -39,8 +38,8 @@ returns-then-code-row c =
     eq-eqb _ _ (c.if-code-row.true ∙ ap (λ (r : Row). r.code) c.load_row-row.ensures) in
     record { value = amount (goal.at.returns-then-code-row c).After-worth-amount ∙ sym (when_true _ _ same); money_after = ap (set a.money.now _) (amount (goal.at.returns-then-code-row c).After-worth-amount) ∙ sym (when_true _ _ same) }
 
-pub returns : goal.returns
-returns c =
+pub returns-else-code-row : goal.returns-else-code-row
+returns-else-code-row c =
     let a = c.args in
     let other : eqb a.code (row_at a.counts.now a.money.now a.i).code ≡ false =
     ne_eqb _ _ (λ e. c.if-code-row.false (e ∙ sym (ap (λ (r : Row). r.code) c.load_row-row.ensures))) in

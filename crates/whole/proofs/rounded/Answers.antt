@@ -4,13 +4,13 @@ use Rattle.whole.specs.Machine.{back, told}
 use Rattle.whole.specs.Round.{on_tie, size_rounded_by, with_sign}
 use Rattle.whole.proofs.RoundLaws.{on_tie-rule, size-rounded-most}
 use Rattle.whole.proofs.rounded.Goals as goal
-use Rattle.whole.proofs.rounded.Goals.{After-size_rounded-m}
+use Rattle.whole.proofs.rounded.Goals.{After-size_rounded}
 
-size_is : (c : After-size_rounded-m) → let s = c.before in
-    c.size_rounded-m.result ≡ size_rounded_by on_tie s.args.n s.args.d
+size_is : (c : After-size_rounded) → let s = c.before in
+    c.size_rounded.result ≡ size_rounded_by on_tie s.args.n s.args.d
 size_is c =
     let s = c.before in
-    c.size_rounded-m.ensures ∙ ap (λ n. size_rounded_by on_tie n s.args.d) (back s.ranges.n)
+    c.size_rounded.ensures ∙ ap (λ n. size_rounded_by on_tie n s.args.d) (back s.ranges.n)
 
 pub with_sign-requires : goal.with_sign-requires
 with_sign-requires c =

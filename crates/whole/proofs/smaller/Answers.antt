@@ -1,18 +1,7 @@
--- The code's test is the one of the definition, at the numbers.
-use mathlib.Core.Path.{sym, ◌∙◌}
-use Rattle.whole.specs.Larger.{smaller}
-use Rattle.whole.specs.Machine.{back}
-use Rattle.whole.specs.Tests.{lt-is}
+-- std's answer, by another test.
+use Rattle.std.proofs.Common.{rules}
+use Rattle.whole.specs.Larger.{smaller_is}
 use Rattle.whole.proofs.smaller.Goals as goal
 
-pub returns-then-a-b : goal.returns-then-a-b
-unfolding smaller
-returns-then-a-b c =
-    let f = c.ranges in
-    back f.a ∙ sym (rw (lt-is (back f.a) (back f.b) c.if-a-b.true))
-
-pub returns-else-a-b : goal.returns-else-a-b
-unfolding smaller
-returns-else-a-b c =
-    let f = c.ranges in
-    back f.b ∙ sym (rw (lt-is (back f.a) (back f.b) c.if-a-b.false))
+pub returns : goal.returns
+returns c = let e = smaller_is c.args.a c.args.b in search rules

@@ -1,6 +1,5 @@
 -- The list lent holds the exceptions that were read.
 use mathlib.Core.Path.{sym}
-use borrow.Author.Rules.{rules}
 use Rattle.book.proofs.bytes.call_read.Goals as goal
 
 pub returns : goal.returns

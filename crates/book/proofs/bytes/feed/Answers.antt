@@ -1,31 +1,25 @@
 -- What was read is called, with room for the exceptions that it announces.
-use mathlib.Core.Path.{sym, ap, ◌∙◌}
-use borrow.Author.Rules.{rules}
-use Rattle.records.specs.declared.Reading.{Reading}
+use mathlib.Core.Path.{◌∙◌}
+use Rattle.std.proofs.lemmas.Result.{err_from_is_err_and}
 use Rattle.records.specs.ReadingLaws.{Stands}
 use Rattle.book.specs.FeedingLaws.{read-stands, announced-few, fed-none, fed-next}
 use Rattle.book.proofs.bytes.feed.Goals as goal
-use Rattle.book.proofs.bytes.feed.Goals.{In-Next}
+use Rattle.book.proofs.bytes.feed.Goals.{In_ok-read}
 
 -- the record that was read
-stands : (c : In-Next)
-    → let a = c.args in
-    let r = c.read_record-read.result in
-    Stands a.bytes.now a.at c.in-Next.next r.kind r.fields r.more
-stands c =
-    read-stands (λ i. (c.shared_slice_known-1.given i).fits) _
-    c.read_record-read.ensures c.in-Next.is
+stands : (c : In_ok-read) → let r = c.in_ok-read.read in Stands c.args.bytes.now c.args.at r.next r.kind r.fields r.more
+stands c = read-stands (λ i. (c.type_inv.bytes i).fits) _ c.in_ok-read.ensures
+
+pub returns-in_err-read : goal.returns-in_err-read
+returns-in_err-read c =
+    let p = err_from_is_err_and c.from_residual.result c.from_residual.ensures.1 in
+    rw (p.1, p.2) (fed-none _ _ _ _ _ c.in_err-read.ensures)
 
 pub call_announced-answer-requires : goal.call_announced-answer-requires
 call_announced-answer-requires c =
-    (c.requires, rw c.announced-count.ensures (announced-few (stands (goal.at.call_announced-answer-requires c).In-Next)))
+    (c.requires, rw c.announced-count.ensures (announced-few (stands (goal.at.call_announced-answer-requires c).In_ok-read)))
 
-pub returns-in-Malformed : goal.returns-in-Malformed
-returns-in-Malformed c =
-    let r = c.read_record-read in
-    fed-none _ _ _ _ _ (ap (λ (x : Reading). x.answer) (sym r.ensures) ∙ c.in-Malformed.is)
-
-pub returns-in-Next : goal.returns-in-Next
-returns-in-Next c =
+pub returns : goal.returns
+returns c =
     let f = c.call_announced-answer.ensures in
-    fed-next (stands (goal.at.returns-in-Next c).In-Next) f.list (f.long ∙ c.announced-count.ensures) f.called
+    fed-next (stands (goal.at.returns c).In_ok-read) f.list (f.long ∙ c.announced-count.ensures) f.called

@@ -1,6 +1,5 @@
 -- A record out of range is refused; one in range goes to its group, whose answer is the book's.
 use mathlib.Core.Path.{◌≡◌, sym, ap, ◌∙◌, subst}
-use borrow.Author.Rules.{rules}
 use Rattle.ranges.specs.Ranges.{refusal_of}
 use Rattle.records.specs.Records.{entry}
 use Rattle.model.specs.Refusals.{ranged}
@@ -16,9 +15,9 @@ passed : (c : In_default) → let a = c.args in
     ranged (entry a.kind a.fields a.exceptions.now) ≡ 0
 passed c = ap refusal_of (sym c.in_range.ensures ∙ c.in_default.is)
 
-pub returns-in-Refused : goal.returns-in-Refused
-returns-in-Refused c =
-    checked_refused c.requires _ _ _ (sym c.in_range.ensures ∙ c.in-Refused.is)
+pub returns-in-Err : goal.returns-in-Err
+returns-in-Err c =
+    rw c.number.ensures (checked_refused c.requires _ _ _ (sym c.in_range.ensures ∙ c.in-Err.is))
 
 pub call_account-requires : goal.call_account-requires
 call_account-requires c =

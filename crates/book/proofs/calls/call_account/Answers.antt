@@ -1,7 +1,6 @@
 -- Each arm's call is the record's, by its kind, and what the callee asks is what the range check says of that call.
 use mathlib.Core.Path.{◌≡◌}
 use native.Mathlib.Omega.{arith}
-use borrow.Author.Rules.{rules}
 use Rattle.fields.specs.FieldLaws.{none_below}
 use Rattle.model.specs.Calls.{call_of}
 use Rattle.book.specs.KindLaws.{amount-most}

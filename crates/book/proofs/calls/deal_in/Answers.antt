@@ -1,5 +1,4 @@
 -- The rate is read back as it was unfolded.
-use borrow.Author.Rules.{rules}
 use Rattle.whole.specs.Machine.{told}
 use Rattle.book.proofs.calls.deal_in.Goals as goal
 

@@ -1,5 +1,4 @@
 -- A tolerance in range is read as it is.
-use borrow.Author.Rules.{rules}
 use Rattle.whole.specs.Machine.{unsigned}
 use Rattle.book.proofs.calls.limits_in.Goals as goal
 

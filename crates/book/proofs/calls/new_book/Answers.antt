@@ -2,7 +2,6 @@
 use mathlib.Core.Path.{ap, ◌∙◌}
 use lib.IntN.{pos}
 use lib.ListN.{replicate}
-use borrow.Author.Rules.{rules}
 use Rattle.book.specs.CalledLaws.{zeros-new}
 use Rattle.book.proofs.calls.new_book.Goals as goal
 

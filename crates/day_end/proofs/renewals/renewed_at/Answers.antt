@@ -1,4 +1,3 @@
-use borrow.Author.Rules.{rules}
 use Rattle.whole.specs.Machine.{told}
 use Rattle.day_end.specs.ReadLaws.{renewed-read, renewed-past}
 use Rattle.day_end.proofs.renewals.renewed_at.Goals as goal

@@ -1,4 +1,3 @@
-use borrow.Author.Rules.{rules}
 use Rattle.dealing.proofs.sides.judge.Goals as goal
 
 pub returns : goal.returns

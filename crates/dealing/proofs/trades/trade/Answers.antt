@@ -1,6 +1,6 @@
 -- What is found of the trade is of the book that the memory stands for.
 use mathlib.Core.Path.{◌∙◌}
-use borrow.Author.Rules.{rules}
+use Rattle.std.proofs.lemmas.Result.{err_from_is_err_and}
 use Rattle.model.specs.Book.{Book}
 use Rattle.standing.specs.Standing.{view}
 use Rattle.standing.specs.StandingLaws.{sound-kept, sound-holds}
@@ -27,11 +27,13 @@ trade_between-requires c =
       sound = h;
       header = c.load_header-h.ensures ∙ sound-header h;
       range = c.requires.1;
-      ready = rw c.in-Found.is at (c.parties_of.ensures (book (goal.at.trade_between-requires c).Start) c.args.money.now (sound-kept h) (sound-holds h));
+      ready = rw c.in_ok-rows.was at (c.parties_of.ensures (book (goal.at.trade_between-requires c).Start) c.args.money.now (sound-kept h) (sound-holds h));
     }
 
-pub returns-in-Refused : goal.returns-in-Refused
-returns-in-Refused c =
+pub returns-in_err-rows : goal.returns-in_err-rows
+returns-in_err-rows c =
     let h = c.requires.0 in
-    refused-traded h
-    (rw c.in-Refused.is at (c.parties_of.ensures (book (goal.at.returns-in-Refused c).Start) c.args.money.now (sound-kept h) (sound-holds h)))
+    let p = err_from_is_err_and c.from_residual.result c.from_residual.ensures.1 in
+    rw (p.1, p.2)
+    (refused-traded h c.in_err-rows.field-0.0
+    (rw c.in_err-rows.was at (c.parties_of.ensures (book (goal.at.returns-in_err-rows c).Start) c.args.money.now (sound-kept h) (sound-holds h))))

@@ -1,6 +1,6 @@
 -- Both accounts are loaded, moved and asked; where they pass, all that the trade changes is stored.
-use mathlib.Core.Path.{◌≡◌, sym, ap₂, ◌∙◌, subst}
-use borrow.Author.Rules.{rules}
+use mathlib.Core.Path.{◌≡◌, ap₂, ◌∙◌, subst}
+use Rattle.std.proofs.lemmas.Result.{err_from_is_err_and}
 use lib.IntN.{pos, neg_ℤ, ◌-ℤ◌, +ℤ_idl}
 use mir.Syntax.{w64}
 use mir.Val.{to_z, of_z}
@@ -15,12 +15,12 @@ use Rattle.model.specs.Effects.{traded}
 use Rattle.standing.specs.Standing.{account_row, view}
 use Rattle.standing.specs.StandingLaws.{sound-kept, sound-holds}
 use Rattle.standing.specs.DealLaws.{margins-sound, margins-are, buyer-lots, seller-lots}
-use Rattle.dealing.specs.Dealing.{trade_of, Traded}
+use Rattle.dealing.specs.Dealing.{trade_of}
 use Rattle.dealing.specs.Parties.{Answers}
 use Rattle.dealing.proofs.TradedLaws.{refused-traded, accepted-traded}
 use Rattle.dealing.proofs.DealsLaws.{moved, deals-long, row-k, row_below, account-in, account-sound, moved-is, answers, sides, stored, sides-writable, all-written}
 use Rattle.dealing.proofs.trades.trade_between.Goals as goal
-use Rattle.dealing.proofs.trades.trade_between.Goals.{After-judge-answer, After-load_margins-margins, After-store_account, After-store_account-2, After-with_lots-bought, After-with_lots-sold, Start}
+use Rattle.dealing.proofs.trades.trade_between.Goals.{After-judge, After-load_margins-margins, After-store_account, After-store_account-2, After-with_lots-bought, After-with_lots-sold, Start}
 
 abbrev book : Start → Book
 book s = view s.args.counts.now s.args.money.now
@@ -50,7 +50,7 @@ bought : (c : After-with_lots-bought) → let s = start (goal.at.After-with_lots
 bought c =
     let s = start (goal.at.After-with_lots-bought c).After-load_margins-margins in
     c.with_lots-bought.ensures
-    ∙ ap₂ (λ l r. with_holdings c.load_account-buyer.result (with_trade c.load_account-buyer.result.holdings s.args.k l r))
+    ∙ ap₂ (λ l r. with_holdings c.load_account-buyer.result (with_trade c.load_account-buyer.result.holdings s.args.rows.contract l r))
     (lots s).eq (rate s).eq
     ∙ moved-is s.requires s.requires.ready.between.buyer c.load_account-buyer.ensures (buyer-lots (sound-kept s.requires.sound) s.requires.ready.between)
 
@@ -59,7 +59,7 @@ sold : (c : After-with_lots-sold) → let s = start (goal.at.After-with_lots-sol
 sold c =
     let s = start (goal.at.After-with_lots-sold c).After-load_margins-margins in
     c.with_lots-sold.ensures
-    ∙ ap₂ (λ l r. with_holdings c.load_account-seller.result (with_trade c.load_account-seller.result.holdings s.args.k l r))
+    ∙ ap₂ (λ l r. with_holdings c.load_account-seller.result (with_trade c.load_account-seller.result.holdings s.args.rows.contract l r))
     (less s).eq (rate s).eq
     ∙ moved-is s.requires s.requires.ready.between.seller c.load_account-seller.ensures (seller-lots (sound-kept s.requires.sound) s.requires.ready.between)
 
@@ -67,22 +67,22 @@ margins : (c : After-load_margins-margins) → c.load_margins-margins.result ≡
 margins c = let d = (start c).requires in c.load_margins-margins.ensures ∙ margins-are (sound-kept d.sound) d.ready.between.live (sound-holds d.sound)
 
 -- ---- what they answer
-abbrev judging : After-judge-answer → After-load_margins-margins
-judging c = (goal.at.After-judge-answer c).After-load_margins-margins
+abbrev judging : After-judge → After-load_margins-margins
+judging c = (goal.at.After-judge c).After-load_margins-margins
 
-answer : (c : After-judge-answer) → let s = start (judging c) in Answers (book s) (deal s) c.judge-answer.result
+answer : (c : After-judge) → let s = start (judging c) in Answers (book s) (deal s) c.judge.result
 answer c =
     let m = judging c in
     let d = (start m).requires in
-    answers d c.judge-answer.ensures (margins m)
+    answers d c.judge.ensures (margins m)
     (m.load_account-buyer.ensures ∙ account-in d d.ready.between.buyer)
-    (bought (goal.at.After-judge-answer c).After-with_lots-bought)
+    (bought (goal.at.After-judge c).After-with_lots-bought)
     (m.load_account-seller.ensures ∙ account-in d d.ready.between.seller)
-    (sold (goal.at.After-judge-answer c).After-with_lots-sold)
+    (sold (goal.at.After-judge c).After-with_lots-sold)
 
 -- ---- what is stored
-abbrev accepted : After-store_account → After-judge-answer
-accepted c = (goal.at.After-store_account c).After-judge-answer
+abbrev accepted : After-store_account → After-judge
+accepted c = (goal.at.After-store_account c).After-judge
 
 abbrev first-stored : After-store_account-2 → After-store_account
 first-stored c = (goal.at.After-store_account-2 c).After-store_account
@@ -94,7 +94,7 @@ both : (c : After-store_account-2) → Holds c.store_account-2.new.counts c.stor
 both c =
     let first = first-stored c in
     let q = accepted first in
-    stored (start-stored c).requires (bought (goal.at.After-judge-answer q).After-with_lots-bought) (sold (goal.at.After-judge-answer q).After-with_lots-sold)
+    stored (start-stored c).requires (bought (goal.at.After-judge q).After-with_lots-bought) (sold (goal.at.After-judge q).After-with_lots-sold)
     first.store_account.ensures.0 first.store_account.ensures.1 c.store_account-2.ensures.0 c.store_account-2.ensures.1
 
 pub load_account-buyer-requires : goal.load_account-buyer-requires
@@ -126,28 +126,28 @@ with_lots-sold-requires c =
       (row-k s.requires, (passed (less s), passed (rate s))),
     )
 
-pub judge-answer-requires : goal.judge-answer-requires
-judge-answer-requires c =
-    let s = start (goal.at.judge-answer-requires c).After-load_margins-margins in
+pub judge-requires : goal.judge-requires
+judge-requires c =
+    let s = start (goal.at.judge-requires c).After-load_margins-margins in
     let buyer = account-sound s.requires s.requires.ready.between.buyer c.load_account-buyer.ensures in
     let seller = account-sound s.requires s.requires.ready.between.seller c.load_account-seller.ensures in (
-      moved s.args.k buyer (passed (lots s)) (passed (rate s)) c.with_lots-bought.ensures,
+      moved s.args.rows.contract buyer (passed (lots s)) (passed (rate s)) c.with_lots-bought.ensures,
       (
-        moved s.args.k seller (passed (less s)) (passed (rate s)) c.with_lots-sold.ensures,
-        (row-k s.requires, rw (margins (goal.at.judge-answer-requires c).After-load_margins-margins) (margins-sound (sound-kept s.requires.sound) s.requires.ready.between.live)),
+        moved s.args.rows.contract seller (passed (less s)) (passed (rate s)) c.with_lots-sold.ensures,
+        (row-k s.requires, rw (margins (goal.at.judge-requires c).After-load_margins-margins) (margins-sound (sound-kept s.requires.sound) s.requires.ready.between.live)),
       ),
     )
 
-pub returns-in_default : goal.returns-in_default
-returns-in_default c =
-    let s = start (judging (goal.at.returns-in_default c).After-judge-answer) in
-    let told = c.in_default.is in
-    subst (λ r. Traded s.args.counts.now s.args.money.now (deal s) r s.args.counts.now s.args.money.now) (sym told)
-    (refused-traded s.requires.sound (subst (Answers (book s) (deal s)) told (answer (goal.at.returns-in_default c).After-judge-answer)))
+pub returns-in_err-dealt : goal.returns-in_err-dealt
+returns-in_err-dealt c =
+    let s = start (judging (goal.at.returns-in_err-dealt c).After-judge) in
+    let p = err_from_is_err_and c.from_residual.result c.from_residual.ensures.1 in
+    rw (p.1, p.2)
+    (refused-traded s.requires.sound c.in_err-dealt.field-0.0 (subst (Answers (book s) (deal s)) c.in_err-dealt.was (answer (goal.at.returns-in_err-dealt c).After-judge)))
 
 pub store_account-requires : goal.store_account-requires
 store_account-requires c =
-    let d = (start (judging (goal.at.store_account-requires c).After-judge-answer)).requires in (deals-long d, row_below d d.ready.between.buyer)
+    let d = (start (judging (goal.at.store_account-requires c).After-judge)).requires in (deals-long d, row_below d d.ready.between.buyer)
 
 pub store_account-requires-2 : goal.store_account-requires-2
 store_account-requires-2 c =
@@ -163,7 +163,6 @@ write_trade-requires c =
 pub returns : goal.returns
 returns c =
     let s = start-stored (goal.at.returns c).After-store_account-2 in
-    let told = (first-stored (goal.at.returns c).After-store_account-2).in-Accepted.is in
-    subst (λ r. Traded s.args.counts.now s.args.money.now (deal s) r c.write_trade.new.counts c.write_trade.new.money) (sym told)
-    (accepted-traded s.requires.sound (subst (Answers (book s) (deal s)) told (answer (accepted (first-stored (goal.at.returns c).After-store_account-2))))
-    (all-written s.requires (both (goal.at.returns c).After-store_account-2) c.write_trade.ensures))
+    let first = first-stored (goal.at.returns c).After-store_account-2 in
+    accepted-traded s.requires.sound (subst (Answers (book s) (deal s)) first.in_ok-dealt.was (answer (accepted first)))
+    (all-written s.requires (both (goal.at.returns c).After-store_account-2) c.write_trade.ensures)

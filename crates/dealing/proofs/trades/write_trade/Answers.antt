@@ -1,6 +1,5 @@
 -- The contract's row is loaded, counts the trade and is put back; the header follows.
 use mathlib.Core.Path.{◌≡◌, sym, ap, ap₂, ◌∙◌, subst}
-use borrow.Author.Rules.{rules}
 use Rattle.whole.specs.Machine.{arg, passed}
 use Rattle.tallies.specs.Bounds.{Sound}
 use Rattle.tallies.specs.Means.{weighted}

@@ -1,23 +1,22 @@
 use mathlib.Core.Path.{◌≡◌, refl, subst}
 use mathlib.Core.Bool.{true}
-use Prim.Native.Nat.{◌-◌, ◌<◌, ◌≤◌}
+use Prim.Native.Nat.{◌<◌}
 use native.Mathlib.Omega.{arith}
-use borrow.Author.Rules.{rules}
 use lib.ListN.{get_or}
 use Rattle.lists.specs.Has.{has}
 use Rattle.lists.specs.Keyed.{has-at}
 use Rattle.whole.specs.Machine.{arg, pass}
 use Rattle.standing.specs.Standing.{view}
-use Rattle.desk.specs.LineLaws.{LinedTo, lined-none, lined-table, lined-next, lined-all}
+use Rattle.desk.specs.LineLaws.{lined-none, lined-table, lined-next, lined-all}
 use Rattle.desk.proofs.contract_lines.each_line.Goals as goal
 
 pub loop-k-init : goal.loop-k-init
 loop-k-init c =
     let a = c.args in
-    (lined-none (view a.counts.now a.money.now) a.labels.now a.amounts.now a.used a.before _ refl, omega arith)
+    lined-none (view a.counts.now a.money.now) a.labels.now a.amounts.now a.used a.before _ refl
 
-pub line_of-line-requires : goal.line_of-line-requires
-line_of-line-requires c =
+pub line_of-requires : goal.line_of-requires
+line_of-requires c =
     let l = c.loop-k in
     let b = c.requires.sound.1 in
     let q : l.k < 6 = omega arith in record {
@@ -28,24 +27,18 @@ line_of-line-requires c =
       within = (pass (b.nets l.k q) tt tt, (pass (b.previous l.k q) tt tt, b.rates l.k q));
       table =
           lined-table (view c.args.counts.now c.args.money.now) c.args.labels.now c.args.amounts.now c.args.used c.args.before
-          l.invariant.0 c.requires.table;
+          l.invariant c.requires.table;
     }
 
 pub loop-k-preserved : goal.loop-k-preserved
 loop-k-preserved c =
     let l = c.loop-k in
     let b = c.requires.sound.1 in
-    let q : l.k < 6 = omega arith in (
-      lined-next (view c.args.counts.now c.args.money.now) c.args.labels.now c.args.amounts.now c.args.used c.args.before
-          l.invariant.0 b q
-          (rw ((arg (b.nets l.k q) tt).eq, (arg (b.previous l.k q) tt).eq) at c.line_of-line.ensures),
-      omega arith,
-    )
-
-pub shape_of-amounts : goal.shape_of-amounts
-shape_of-amounts c = c.loop-k.invariant.0.long
+    lined-next (view c.args.counts.now c.args.money.now) c.args.labels.now c.args.amounts.now c.args.used c.args.before
+    l.invariant b (omega arith)
+    (rw ((arg (b.nets l.k (omega arith)) tt).eq, (arg (b.previous l.k (omega arith)) tt).eq) at c.line_of.ensures)
 
 pub returns : goal.returns
 returns c =
     lined-all (view c.args.counts.now c.args.money.now) c.args.labels.now c.args.amounts.now c.args.used c.args.before
-    c.loop-k.invariant.0 c.requires.sound.1 (omega (arith, c.loop-k-test.false)) c.loop-k.invariant.1
+    c.loop-k.invariant c.requires.sound.1 (omega arith) (omega arith)

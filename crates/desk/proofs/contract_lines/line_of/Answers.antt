@@ -1,8 +1,6 @@
+use Rattle.std.specs.Prelude.{Some}
 use mathlib.Core.Path.{◌≡◌, sym, ap, ap₂, ◌∙◌, subst}
-use Prim.Native.Nat.{ℕ}
 use native.Mathlib.Nat.{le_refl}
-use native.Mathlib.Omega.{arith}
-use borrow.Author.Rules.{rules}
 use lib.IntN.{ℤ, pos, ◌+ℤ◌}
 use Rattle.lists.specs.HasLaws.{when_true}
 use Rattle.whole.specs.Within.{Within, within-*, within--, lit}
@@ -12,33 +10,32 @@ use Rattle.rates.specs.declared.Settled.{Settled}
 use Rattle.model.specs.Book.{Book}
 use Rattle.model.specs.Promises.{worth_at}
 use Rattle.standing.specs.Standing.{view}
-use Rattle.reports.specs.declared.Rated.TheVariants.{At}
 use Rattle.trail.specs.Tables.{Priced}
 use Rattle.trail.specs.PriceLaws.{sum_fits}
 use Rattle.desk.specs.Lines.{rate_in}
 use Rattle.desk.specs.LineLaws.{line-parts, worth-parts}
 use Rattle.desk.proofs.contract_lines.line_of.Goals as goal
-use Rattle.desk.proofs.contract_lines.line_of.Goals.{After-amounts-1, After-worth-carried, In-At, Start}
+use Rattle.desk.proofs.contract_lines.line_of.Goals.{After-amounts-1, After-worth-carried, In-Some, Start}
 
 abbrev after : Start → Book
 after s = view s.args.counts.now s.args.money.now
 
 -- a contract that was settled has what the close found
-shown : (c : In-At) →
-    c.in-At.settled ≡ (after (goal.at.In-At c).Start).results.settled c.args.code
+shown : (c : In-Some) →
+    c.in-Some.settled ≡ (after (goal.at.In-Some c).Start).results.settled c.args.code
 shown c =
-    let e : At c.in-At.settled ≡ At ((after (goal.at.In-At c).Start).results.settled c.args.code) =
-    sym c.in-At.is ∙ c.rate_of.ensures ∙ when_true _ _ c.requires.sound.1 in
+    let e : Some c.in-Some.settled ≡ Some ((after (goal.at.In-Some c).Start).results.settled c.args.code) =
+    sym c.in-Some.is ∙ c.rate_of.ensures ∙ when_true _ _ c.requires.sound.1 in
     cc
 
-rate-within : (c : In-At) → Within 100000 c.in-At.settled.rate
+rate-within : (c : In-Some) → Within 100000 c.in-Some.settled.rate
 rate-within c =
     subst (λ (x : Settled). Within 100000 x.rate) (sym (shown c)) c.requires.within.1.1
 
 -- what was carried over earns
 module _ (c : After-worth-carried) where
-  abbrev found : In-At
-  found = (goal.at.After-worth-carried c).In-At
+  abbrev found : In-Some
+  found = (goal.at.After-worth-carried c).In-Some
 
   abbrev start : Start
   start = (goal.at.After-worth-carried c).Start
@@ -76,36 +73,27 @@ module _ (c : After-amounts-1) where
   abbrev sum : Got 501000000000000 (c.price-made.result +ℤ worth.worth-carried.result)
   sum = got (add (arg made-within tt) (arg (carried-within worth) tt))
 
-pub returns-in_default : goal.returns-in_default
-returns-in_default c =
-    let e = sym c.in_default.is ∙ c.rate_of.ensures ∙ when_true _ _ c.requires.sound.1 in
-    let z : ◌≡◌ {A = ℕ} 0 1 = cc in
-    absurd (omega arith)
-
-pub worth-carried-requires : goal.worth-carried-requires
-worth-carried-requires c =
-    (pass c.requires.within.0 tt tt, (pass c.requires.within.1.0 tt tt, pass (rate-within (goal.at.worth-carried-requires c).In-At) tt tt))
-
 pub price-made-requires : goal.price-made-requires
 price-made-requires c =
     let t = (start (goal.at.price-made-requires c).After-worth-carried).requires.table in
     record { used_bound = (t.few, (t.counts-long, t.money-long)); within = (pass (rate-within (found (goal.at.price-made-requires c).After-worth-carried)) tt tt, t.modest) }
 
 pub overflow_add-result : goal.overflow_add-result
-overflow_add-result c = fits (sum c).reads tt
+overflow_add-result c = fits (sum (goal.at.overflow_add-result c).After-amounts-1).reads tt
 
 pub returns : goal.returns
 returns c =
-    let w = worth c in
+    let m = (goal.at.returns c).After-amounts-1 in
+    let w = worth m in
     let made = shown (found w) in
     record {
       line = line-parts _
           ((arg (rate-within (found w)) tt).eq ∙ ap (λ (x : Settled). x.rate) made)
-          (c.number_of-number.ensures ∙ ap (λ (x : Settled). number_of x.rule) made)
+          (c.number_of.ensures ∙ ap (λ (x : Settled). number_of x.rule) made)
           (ap (λ (x : Settled). x.used) made)
           ((arg (carried-within w) tt).eq ∙ carried-is w)
-          ((kept (sum c).reads tt).eq ∙ ap₂ ◌+ℤ◌ (priced c).sum_is (carried-is w));
-      rows = (priced c).rows;
-      behind = (priced c).behind;
-      long = (priced c).long;
+          ((kept (sum m).reads tt).eq ∙ ap₂ ◌+ℤ◌ (priced m).sum_is (carried-is w));
+      rows = (priced m).rows;
+      behind = (priced m).behind;
+      long = (priced m).long;
     }

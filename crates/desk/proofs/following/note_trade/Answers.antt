@@ -1,11 +1,10 @@
 use mathlib.Core.Path.{ap, ◌∙◌}
-use borrow.Author.Rules.{rules}
 use lib.IntN.{ℤ, pos, neg_ℤ, ◌-ℤ◌, +ℤ_idl}
 use Rattle.whole.specs.Within.{lit}
-use Rattle.whole.specs.Machine.{Got, got, now, unsigned, sub, fits, kept}
+use Rattle.whole.specs.Machine.{Got, got, now, unsigned, sub, kept}
 use Rattle.model.specs.Calls.{Trade}
 use Rattle.desk.specs.Follows.{trade_in, row_with}
-use Rattle.desk.specs.FollowLaws.{bought-tabled, sold-tabled, other-tabled}
+use Rattle.desk.specs.FollowLaws.{bought-tabled, sold-tabled}
 use Rattle.desk.proofs.following.note_trade.Goals as goal
 use Rattle.desk.proofs.following.note_trade.Goals.{Start}
 
@@ -23,9 +22,6 @@ returns-then-account-fields c =
     (c.row_with-row.ensures ∙ ap (λ (z : ℤ). row_with (deal (goal.at.returns-then-account-fields c).Start) (deal (goal.at.returns-then-account-fields c).Start).seller z c.args.buyer) (unsigned c.requires.notable.1 tt).eq)
     c.store_row.ensures
 
-pub overflow_sub-lots : goal.overflow_sub-lots
-overflow_sub-lots c = fits (below (goal.at.overflow_sub-lots c).Start).reads tt
-
 pub returns-then-account-fields-2 : goal.returns-then-account-fields-2
 returns-then-account-fields-2 c =
     sold-tabled c.args.account (deal (goal.at.returns-then-account-fields-2 c).Start) c.args.buyer c.args.seller
@@ -34,8 +30,3 @@ returns-then-account-fields-2 c =
     (c.row_with-row-then-account-fields-2.ensures
     ∙ ap (λ (z : ℤ). row_with (deal (goal.at.returns-then-account-fields-2 c).Start) (deal (goal.at.returns-then-account-fields-2 c).Start).buyer z c.args.seller) ((kept (below (goal.at.returns-then-account-fields-2 c).Start).reads tt).eq ∙ +ℤ_idl (neg_ℤ (pos (deal (goal.at.returns-then-account-fields-2 c).Start).lots))))
     c.store_row-then-account-fields-2.ensures
-
-pub returns : goal.returns
-returns c =
-    other-tabled c.args.account (deal (goal.at.returns c).Start) c.args.buyer c.args.seller c.args.labels.now c.args.amounts.now c.args.used
-    c.if-account-fields.false c.if-account-fields-2.false

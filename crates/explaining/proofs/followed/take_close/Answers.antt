@@ -19,34 +19,34 @@ returns-in_default-clause-further c = further-not c.requires.at_in_bounds c.stop
 
 pub returns-in_default-answer : goal.returns-in_default-answer
 returns-in_default-answer c =
-    let far = followed-further c.follow-followed.ensures c.in-Next.is (λ i. (c.shared_slice_known-2-1.given i).fits) in
+    let far = followed-further c.follow-followed.ensures c.in-Ok.is (λ i. (c.shared_slice_known-2-1.given i).fits) in
     record {
-      followable_2 = rw c.moved.ensures.1 (followed-on c.follow-followed.ensures c.in-Next.is c.requires.followable);
+      followable_2 = rw c.moved.ensures.1 (followed-on c.follow-followed.ensures c.in-Ok.is c.requires.followable);
       further = further-on (rw c.moved.ensures.0 far.0) (rw c.moved.ensures.0 far.1);
     }
 
 pub close_lines-lines-requires : goal.close_lines-lines-requires
 close_lines-lines-requires c =
-    followed-closing c.follow-followed.ensures c.in-Next.is c.requires.followable c.in-Closed.is c.standing_of-before.ensures
+    followed-closing c.follow-followed.ensures c.in-Ok.is c.requires.followable c.in-Closed.is c.standing_of-before.ensures
 
 pub explained-found-requires-clause-sound : goal.explained-found-requires-clause-sound
-explained-found-requires-clause-sound c = followable-sound (followed-on c.follow-followed.ensures c.in-Next.is c.requires.followable)
+explained-found-requires-clause-sound c = followable-sound (followed-on c.follow-followed.ensures c.in-Ok.is c.requires.followable)
 
 pub explained-found-requires-clause-rows_in_bounds : goal.explained-found-requires-clause-rows_in_bounds
 explained-found-requires-clause-rows_in_bounds c =
     let closing =
-    followed-closing c.follow-followed.ensures c.in-Next.is c.requires.followable c.in-Closed.is c.standing_of-before.ensures in
+    followed-closing c.follow-followed.ensures c.in-Ok.is c.requires.followable c.in-Closed.is c.standing_of-before.ensures in
     explained-table c.close_lines-lines.ensures closing
 
 pub returns-clause-followable_2 : goal.returns-clause-followable_2
 returns-clause-followable_2 c =
     let closing =
-    followed-closing c.follow-followed.ensures c.in-Next.is c.requires.followable c.in-Closed.is c.standing_of-before.ensures in
+    followed-closing c.follow-followed.ensures c.in-Ok.is c.requires.followable c.in-Closed.is c.standing_of-before.ensures in
     rw c.day_over.ensures.1
-    (closed-followable c.follow-followed.ensures c.in-Next.is c.requires.followable c.in-Closed.is
+    (closed-followable c.follow-followed.ensures c.in-Ok.is c.requires.followable c.in-Closed.is
     (explained-long c.close_lines-lines.ensures closing))
 
 pub returns-clause-further : goal.returns-clause-further
 returns-clause-further c =
-    let far = followed-further c.follow-followed.ensures c.in-Next.is (λ i. (c.shared_slice_known-2-1.given i).fits) in
+    let far = followed-further c.follow-followed.ensures c.in-Ok.is (λ i. (c.shared_slice_known-2-1.given i).fits) in
     further-on (rw c.day_over.ensures.0 far.0) (rw c.day_over.ensures.0 far.1)

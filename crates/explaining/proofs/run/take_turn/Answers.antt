@@ -12,25 +12,6 @@ use Rattle.explaining.proofs.run.take_turn.Goals as goal
 within : {end : ℕ} (w : Window) {first s : State} → end ≤ w.to → Reaches end first s → s.at ≤ w.to
 within w short reached = let inside = reached.inside in omega arith
 
-pub slice_bounds-follow_block-end-2 : goal.slice_bounds-follow_block-end-2
-slice_bounds-follow_block-end-2 g c = simp length-take (omega arith)
-
-pub follow_block-last-requires-clause-at_in_bounds : goal.follow_block-last-requires-clause-at_in_bounds
-follow_block-last-requires-clause-at_in_bounds g c =
-    let inside = c.refill-w.ensures.within in
-    simp length-take (omega arith)
-
-pub follow_block-last-requires-clause-followable : goal.follow_block-last-requires-clause-followable
-follow_block-last-requires-clause-followable g c = c.requires.followable
-
-pub turned-requires : goal.turned-requires
-turned-requires g c =
-    let inside = c.refill-w.ensures.within in
-    let place = c.refill-w.ensures.place in
-    let on = c.follow_block-last.ensures.reaches.on in
-    let last = within c.refill-w.result (simp length-take (omega arith)) c.follow_block-last.ensures.reaches in
-    (on, omega arith)
-
 pub returns : goal.returns
 returns g c =
     let inside = c.refill-w.ensures.within in

@@ -1,4 +1,3 @@
-use borrow.Author.Rules.{rules}
 use Rattle.whole.specs.Machine.{told}
 use Rattle.keeping.proofs.members.changed.Goals as goal
 

@@ -1,5 +1,4 @@
 use mathlib.Core.Path.{sym, subst}
-use borrow.Author.Rules.{rules}
 use Rattle.memory.specs.Layout.{Long}
 use Rattle.standing.specs.SoundLaws.{sound-long, sound-members, headed-long}
 use Rattle.keeping.specs.EnrolLaws.{enrol-reference, enrol-early, enrol-known, enrol-full, enrolled-made}
@@ -31,7 +30,7 @@ pub returns-then-n-ge64 : goal.returns-then-n-ge64
 returns-then-n-ge64 c =
     let s = start (goal.at.returns-then-n-ge64 c).After-find_account in
     enrol-full s.requires.0 s.args.number s.args.limits c.load_header-h.ensures
-    c.if-h-eq0.false c.find_account.ensures c.in-Nothing.is c.if-n-ge64.true
+    c.if-h-eq0.false c.find_account.ensures c.in-None.is c.if-n-ge64.true
 
 pub new_account-a-requires : goal.new_account-a-requires
 new_account-a-requires c =
@@ -50,7 +49,7 @@ pub returns : goal.returns
 returns c =
     let s = start (goal.at.returns c).After-find_account in
     enrolled-made s.requires.0 s.args.number s.args.limits c.load_header-h.ensures
-    c.if-h-eq0.false c.find_account.ensures c.in-Nothing.is c.if-n-ge64.false
+    c.if-h-eq0.false c.find_account.ensures c.in-None.is c.if-n-ge64.false
     c.new_account-a.ensures
     c.store_header.ensures
     c.store_account.ensures.0

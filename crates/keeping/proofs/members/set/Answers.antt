@@ -1,13 +1,13 @@
 use mathlib.Core.Path.{◌≡◌, ap, ◌∙◌}
 use Prim.Native.Nat.{ℕ, ◌<◌}
-use borrow.Author.Rules.{rules}
+use Rattle.std.specs.Prelude.{Ok}
+use Rattle.std.proofs.lemmas.Result.{err_from_is_err_and}
 use lib.Dec.{ltb}
 use Rattle.accounts.specs.Accounts.{with_holdings}
 use Rattle.memory.specs.declared.header_row.Header.{Header}
 use Rattle.memory.specs.Layout.{Long, header_at}
 use Rattle.standing.specs.SoundLaws.{sound-long, sound-members}
 use Rattle.places.specs.Places.{place_in}
-use Rattle.places.specs.declared.Place.TheVariants.{Row}
 use Rattle.keeping.specs.ChangeLaws.{change-refused, changer, changed-made}
 use Rattle.keeping.proofs.members.set.Goals as goal
 use Rattle.keeping.proofs.members.set.Goals.{After-place_of, Start}
@@ -26,7 +26,7 @@ found c =
     ∙ ap (λ (h : Header). place_in a.counts.now (ltb 0 h.point) a.number) c.load_header-h.ensures
 
 -- the row is one of the table's
-row-there : (c : After-place_of) {i : ℕ} → c.place_of.result ≡ Row i
+row-there : (c : After-place_of) {i : ℕ} → c.place_of.result ≡ Ok i
     → Long (start c).args.counts.now (start c).args.money.now × (i < 64)
 row-there c q =
     let a = (start c).args in
@@ -42,21 +42,22 @@ place_of-requires c =
     ((sound-long s).counts, sound-members s)
 
 pub load_account-a-requires : goal.load_account-a-requires
-load_account-a-requires c = row-there (goal.at.load_account-a-requires c).After-place_of c.in-Row.is
+load_account-a-requires c = row-there (goal.at.load_account-a-requires c).After-place_of c.in_ok-i.was
 
 pub store_account-requires : goal.store_account-requires
 store_account-requires c =
-    row-there (goal.at.store_account-requires c).After-place_of c.in-Row.is
+    row-there (goal.at.store_account-requires c).After-place_of c.in_ok-i.was
 
-pub returns-in-Refused : goal.returns-in-Refused
-returns-in-Refused c =
-    let a = (start (goal.at.returns-in-Refused c).After-place_of).args in
-    change-refused (start (goal.at.returns-in-Refused c).After-place_of).requires a.number a.change (found (goal.at.returns-in-Refused c).After-place_of) c.in-Refused.is
+pub returns-in_err-i : goal.returns-in_err-i
+returns-in_err-i c =
+    let p = err_from_is_err_and c.from_residual.result c.from_residual.ensures.1 in
+    let s = start (goal.at.returns-in_err-i c).After-place_of in
+    rw (p.1, p.2) (change-refused s.requires s.args.number s.args.change (found (goal.at.returns-in_err-i c).After-place_of) c.in_err-i.was)
 
-pub returns-in-Row : goal.returns-in-Row
-returns-in-Row c =
-    let a = (start (goal.at.returns-in-Row c).After-place_of).args in
-    changed-made (start (goal.at.returns-in-Row c).After-place_of).requires a.number a.change (found (goal.at.returns-in-Row c).After-place_of) c.in-Row.is
+pub returns : goal.returns
+returns c =
+    let a = (start (goal.at.returns c).After-place_of).args in
+    changed-made (start (goal.at.returns c).After-place_of).requires a.number a.change (found (goal.at.returns c).After-place_of) c.in_ok-i.was
     c.load_account-a.ensures
     (ap (with_holdings c.load_account-a.result) c.changed-a.ensures)
     c.store_account.ensures.0

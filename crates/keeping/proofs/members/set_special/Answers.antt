@@ -1,4 +1,3 @@
-use borrow.Author.Rules.{rules}
 use Rattle.whole.specs.Machine.{unsigned}
 use Rattle.keeping.proofs.members.set_special.Goals as goal
 

@@ -1,5 +1,4 @@
 use mathlib.Core.Path.{sym, subst}
-use borrow.Author.Rules.{rules}
 use borrow.Author.Tests.{not-true, not-false}
 use Rattle.memory.specs.Layout.{Long}
 use Rattle.standing.specs.SoundLaws.{sound-long, headed-long}

@@ -4,6 +4,4 @@ use Rattle.lines.proofs.parts.put_field.Goals as goal
 
 pub returns : goal.returns
 returns c =
-    let next = c.before.before in
-    let first = next.before.before.before.before in
     put-more (omega (arith, c.requires, numeral-length c.args.number)) c.put_word-next.ensures c.put_number.ensures

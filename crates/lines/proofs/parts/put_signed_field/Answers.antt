@@ -5,7 +5,5 @@ use Rattle.lines.proofs.parts.put_signed_field.Goals as goal
 
 pub returns : goal.returns
 returns c =
-    let next = c.before.before in
-    let first = next.before.before.before.before in
     put-more (omega (arith, c.requires, signed-length c.args.number)) c.put_word-next.ensures
     (rw (back c.ranges.number) at c.put_signed.ensures)

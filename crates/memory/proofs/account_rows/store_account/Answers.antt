@@ -3,6 +3,6 @@ use Rattle.memory.proofs.account_rows.store_account.Goals as goal
 
 pub returns : goal.returns
 returns c = (
-  rw c.put_account_counts.ensures (simp part-width),
+  rw (c.put_cells.ensures, c.account_counts.ensures),
   rw c.put_account_money.ensures (simp part-width),
 )

@@ -4,11 +4,11 @@ use native.Mathlib.Omega.{arith}
 use Rattle.months.specs.MonthLaws.{settle-before, settle-in, settle-past}
 use Rattle.months.proofs.Month.settlement_day.Goals as goal
 
-pub returns-then-number-lt-FIRST : goal.returns-then-number-lt-FIRST
-returns-then-number-lt-FIRST c = sym (settle-before _ _ c.if-number-lt-FIRST.true)
+pub returns-then-self-lt-FIRST : goal.returns-then-self-lt-FIRST
+returns-then-self-lt-FIRST c = sym (settle-before _ _ c.if-self-lt-FIRST.true)
 
-pub returns-then-number-gt-LAST : goal.returns-then-number-gt-LAST
-returns-then-number-gt-LAST c = sym (settle-past _ c.args.self.number (omega arith))
+pub returns-then-self-gt-LAST : goal.returns-then-self-gt-LAST
+returns-then-self-gt-LAST c = sym (settle-past _ c.args.self.number (omega arith))
 
 pub returns : goal.returns
-returns c = rw (settle-in _ _ c.if-number-lt-FIRST.false, ← c.third_wednesday.ensures) c.next_working.ensures
+returns c = rw (settle-in _ _ c.if-self-lt-FIRST.false, ← c.third_wednesday.ensures) c.next_working.ensures

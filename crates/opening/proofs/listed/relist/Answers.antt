@@ -1,4 +1,3 @@
-use borrow.Author.Rules.{rules}
 use Rattle.memory.specs.Layout.{contract_at}
 use Rattle.opening.specs.Putting.{still-long}
 use Rattle.opening.specs.RelistLaws.{six-rows, relist-turns}

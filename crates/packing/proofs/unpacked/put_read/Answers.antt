@@ -19,15 +19,15 @@ put_word-requires c =
     let a = c.args in
     let list = c.read_numbers-end.new.room in
     let same : length list ≡ length a.list.now = omega arith in
-    let shape : shaped a.kind a.fields (length list) ≡ true = rw same c.requires.0 in
-    omega (arith, c.requires.1, c.put_record-after.ensures.place, record-length a.kind a.fields list shape)
+    let shape : shaped a.read.kind a.read.fields (length list) ≡ true = rw same c.requires.0 in
+    omega (arith, c.requires.1, c.put_record-after.ensures.place, record-length a.read.kind a.read.fields list shape)
 
 pub returns : goal.returns
 returns c =
     let a = c.args in
     let list = c.read_numbers-end.new.room in
     let same : length list ≡ length a.list.now = omega arith in
-    let shape : shaped a.kind a.fields (length list) ≡ true = rw same c.requires.0 in
-    let short = record-length a.kind a.fields list shape in
+    let shape : shaped a.read.kind a.read.fields (length list) ≡ true = rw same c.requires.0 in
+    let short = record-length a.read.kind a.read.fields list shape in
     rw (sym c.read_numbers-end.ensures.1)
     (put-more (omega (arith, c.requires.1, short)) c.put_record-after.ensures c.put_word.ensures)

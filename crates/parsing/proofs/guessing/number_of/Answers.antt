@@ -7,4 +7,4 @@ pub returns-in_default : goal.returns-in_default
 returns-in_default c = ap or_zero (sym c.in_default.is ∙ c.number_in.ensures)
 
 pub returns : goal.returns
-returns c = ap or_zero (sym c.in-Of.is ∙ c.number_in.ensures)
+returns c = ap or_zero (sym c.in-Some.is ∙ c.number_in.ensures)

@@ -1,65 +1,48 @@
 -- The exceptions so far stand one after the other, and in the list.
-use mathlib.Core.Path.{◌≡◌, refl}
-use Prim.Native.Nat.{◌<◌}
-use native.Mathlib.Numerals.{add-one}
-use native.Mathlib.Omega.{arith}
-use lib.ListN.{length, take, length-set}
-use lib.Seq.{take-suc-set, length-take-le}
+use Rattle.std.proofs.Common.{◌≡◌, ◌∙◌, ◌<◌, length, take, add-one, arith, length-append, length-drop}
+use Rattle.std.specs.Prelude.{ℕ, Result, Err}
+use Rattle.std.proofs.lemmas.Result.{err_from_is_err_and}
+use Rattle.std.proofs.Math.ListN.{length-set}
+use Rattle.std.proofs.Math.Seq.{take-suc-set}
+use Rattle.std.proofs.lemmas.List.{length-take-le}
 use Rattle.wording.specs.Text.{exception_text}
 use Rattle.parsing.specs.PlaceLaws.{passed_none, passed-more, passed-stuck}
 use Rattle.parsing.specs.WordLaws.{exceptions-spaced}
 use Rattle.parsing.proofs.line.exceptions_in.Goals as goal
+use Rattle.parsing.proofs.line.exceptions_in.Goals.{After-exception_at}
+
+-- the list has room for one more
+room : (c : After-exception_at) → length c.loop-i.slot-items ≡ c.args.n
+room c = c.loop-i.auto.slot-items ∙ length-take-le c.args.n c.args.list.now c.requires.1
+
+some : (c : After-exception_at) → length (take c.loop-i.i c.loop-i.slot-items) < c.args.n
+some c = omega (arith, room c, length-take-le c.loop-i.i c.loop-i.slot-items (omega (arith, room c)))
 
 pub loop-i-init : goal.loop-i-init
-loop-i-init c =
+loop-i-init c = let a = c.args in passed_none (λ _. exception_text) a.n a.line.now a.at c.requires.0
+
+pub returns-in_err-number : goal.returns-in_err-number
+returns-in_err-number c =
+    let e = (goal.at.returns-in_err-number c).After-exception_at in
     let a = c.args in
-    (passed_none (λ _. exception_text) a.n a.line.now a.at c.requires.0, omega arith, refl)
-
-pub exception_at-requires : goal.exception_at-requires
-exception_at-requires c = c.loop-i.invariant.0.stands.within
-
-pub shape_of-list-in_default : goal.shape_of-list-in_default
-shape_of-list-in_default c = c.loop-i.invariant.2
-
-pub returns-in_default : goal.returns-in_default
-returns-in_default c =
-    let l = c.before.before.before.before in
-    let few : c.loop-i.i < length c.loop-i.list = omega (arith, c.requires.1, c.loop-i.invariant.2) in
-    let some : length (take c.loop-i.i c.loop-i.list) < c.args.n = omega (arith, length-take-le c.loop-i.i c.loop-i.list (omega arith)) in (
-      (
-        c.loop-i-test.true,
-        passed-stuck (λ _. exception_text) c.args.n c.args.line.now c.args.at c.loop-i.place (take c.loop-i.i c.loop-i.list)
-            (exceptions-spaced c.args.n) c.loop-i.invariant.0 some (rw c.in_default.is at c.exception_at.ensures),
+    let l = c.loop-i in
+    let p = err_from_is_err_and c.from_residual.result c.from_residual.ensures.1 in
+    let none = c.in_err-number.ensures.ok_part in
+    let said : ◌≡◌ {A = Result (ℕ × ℕ) ℕ} (Err c.in_err-number.field-0.0) (Err l.i) = rw none at c.in_err-number.ensures.value in
+    let missing : c.in_err-number.field-0.0 ≡ l.i = cc in (
+      rw (p.1, p.2, missing) (
+        omega (arith, room e),
+        passed-stuck (λ _. exception_text) a.n a.line.now a.at l.place (take l.i l.slot-items) (exceptions-spaced a.n) l.invariant (some e)
+            (rw none at c.exception_at.ensures),
       ),
-      c.loop-i.invariant.2,
+      simp (length-append, length-set, length-drop) (omega (arith, room e)),
     )
-
-pub offset_bounds-list-i : goal.offset_bounds-list-i
-offset_bounds-list-i c = omega (arith, c.loop-i.invariant.2)
-
-pub bounds-list-i : goal.bounds-list-i
-bounds-list-i c = omega (arith, c.loop-i.invariant.2)
 
 pub loop-i-preserved : goal.loop-i-preserved
 loop-i-preserved c =
-    let l = c.before.before.before.before.before in
-    let i = c.loop-i.i in
-    let value = c.in-Of.value in
-    let next = c.in-Of.next in
-    let few : i < length c.loop-i.list = omega (arith, c.requires.1, c.loop-i.invariant.2) in
-    let some : length (take i c.loop-i.list) < c.args.n = omega (arith, length-take-le i c.loop-i.list (omega arith)) in (
-      rw (add-one i, take-suc-set c.loop-i.list i value few)
-          (passed-more (λ _. exception_text) c.args.n c.args.line.now c.args.at c.loop-i.place (take i c.loop-i.list)
-          (exceptions-spaced c.args.n) c.loop-i.invariant.0 some value next
-          (rw c.in-Of.is at c.exception_at.ensures)),
-      omega arith,
-      simp length-set c.loop-i.invariant.2,
-    )
-
-pub shape_of-list : goal.shape_of-list
-shape_of-list c = c.loop-i.invariant.2
-
-pub returns : goal.returns
-returns c =
-    let all : c.loop-i.i ≡ c.args.n = omega arith in
-    (rw all at c.loop-i.invariant.0, c.loop-i.invariant.2)
+    let e = (goal.at.loop-i-preserved c).After-exception_at in
+    let a = c.args in
+    let l = c.loop-i in
+    rw (add-one l.i, take-suc-set l.slot-items l.i c.in_ok-number.number (omega (arith, room e)))
+    (passed-more (λ _. exception_text) a.n a.line.now a.at l.place (take l.i l.slot-items) (exceptions-spaced a.n) l.invariant (some e)
+    c.in_ok-number.number c.in_ok-number.next (rw c.in_ok-number.ensures.ok_part at c.exception_at.ensures))

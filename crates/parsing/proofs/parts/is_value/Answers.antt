@@ -1,19 +1,13 @@
 -- What was put is the value's text, and all of it is compared.
-use mathlib.Core.Path.{sym, ◌∙◌}
-use native.Mathlib.Omega.{arith}
-use lib.ListN.{length-take}
+use Rattle.std.proofs.Common.{sym, ◌∙◌}
+use Rattle.std.proofs.lemmas.Bool.Decides.{Decides-eqb}
+use Rattle.std.proofs.lemmas.Slice.Eq.{slice_eq-Decides}
 use Rattle.wording.specs.TextLaws.{value-length}
-use Rattle.parsing.specs.PlaceLaws.{put-within, put-taken}
+use Rattle.parsing.specs.PlaceLaws.{put-taken}
 use Rattle.parsing.proofs.parts.is_value.Goals as goal
-
-pub slice_bounds-room-end : goal.slice_bounds-room-end
-slice_bounds-room-end c = put-within (value-length c.args.style c.args.value) c.put_value-size.ensures
-
-pub slice_bounds-same-end : goal.slice_bounds-same-end
-slice_bounds-same-end c =
-    simp length-take (omega (arith, put-within (value-length c.args.style c.args.value) c.put_value-size.ensures))
 
 pub returns : goal.returns
 returns c =
     let text = put-taken (value-length c.args.style c.args.value) c.put_value-size.ensures in
-    (λ t. c.same.ensures.0 t ∙ text, λ e. c.same.ensures.1 (e ∙ sym text))
+    let same = slice_eq-Decides Decides-eqb _ _ _ c.eq.ensures in
+    (λ t. same.0 t ∙ text, λ e. same.1 (e ∙ sym text))

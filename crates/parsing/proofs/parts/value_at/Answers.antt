@@ -6,17 +6,11 @@ use Rattle.parsing.proofs.parts.value_at.Goals as goal
 
 pub returns-then-is_value : goal.returns-then-is_value
 returns-then-is_value c =
-    let v = c.before in
-    let g = v.before.before in
-    let b = g.before.before in
     value_taken c.args.style c.args.line.now c.args.at c.byte_end-end.result c.guess-value.result c.requires
     c.byte_end-end.ensures.0 c.byte_end-end.ensures.1 c.byte_end-end.ensures.2 c.guess-value.ensures (c.is_value.ensures.0 c.if-is_value.true)
 
 pub returns : goal.returns
 returns c =
-    let v = c.before in
-    let g = v.before.before in
-    let b = g.before.before in
     value-refused c.args.style c.args.line.now c.args.at c.byte_end-end.result c.guess-value.result c.requires
     c.byte_end-end.ensures.0 c.byte_end-end.ensures.1 c.byte_end-end.ensures.2 c.guess-value.ensures
     (λ e. false≢true (sym c.if-is_value.false ∙ c.is_value.ensures.1 e))

@@ -15,22 +15,22 @@ use Rattle.dealing.specs.Dealing.{trade_of}
 use Rattle.hours.specs.Searched.{code-at, code-none, number-at, has_here}
 use Rattle.particulars.specs.AskedLaws.{open_is, asked-shut, asked-unlisted, asked-unknown, asked-totals}
 use Rattle.particulars.proofs.proposed.asked.Goals as goal
-use Rattle.particulars.proofs.proposed.asked.Goals.{After-is_open, Else-not-is_open, In-At, In-At-find_account, Start}
+use Rattle.particulars.proofs.proposed.asked.Goals.{After-is_open, Else-not-is_open, In-Some, In-Some-find_account, Start}
 
 -- ---- from a place back to the one before it where something was found
 abbrev start : After-is_open → Start
 start c = (goal.at.After-is_open c).Start
 
-abbrev before-k : In-At → Else-not-is_open
-before-k c = (goal.at.In-At c).Else-not-is_open
+abbrev before-k : In-Some → Else-not-is_open
+before-k c = (goal.at.In-Some c).Else-not-is_open
 
-abbrev before-i : In-At-find_account → In-At
-before-i c = (goal.at.In-At-find_account c).In-At
+abbrev before-i : In-Some-find_account → In-Some
+before-i c = (goal.at.In-Some-find_account c).In-Some
 
-abbrev start-k : In-At → Start
+abbrev start-k : In-Some → Start
 start-k c = start (goal.at.Else-not-is_open (before-k c)).After-is_open
 
-abbrev start-i : In-At-find_account → Start
+abbrev start-i : In-Some-find_account → Start
 start-i c = start-k (before-i c)
 
 abbrev book : Start → Book
@@ -46,15 +46,15 @@ open_at c = open_is (start c).requires.0 c.load_header-h.ensures c.is_open.ensur
 live : (c : Else-not-is_open) → is_open (book (start (goal.at.Else-not-is_open c).After-is_open)).today.point ≡ true
 live c = open_at (goal.at.Else-not-is_open c).After-is_open ∙ not-false _ c.if-not-is_open.false-raw
 
-contract : (c : In-At) → let s = start-k c in Stands (book s).contracts.codes (deal s).code c.in-At.k
+contract : (c : In-Some) → let s = start-k c in Stands (book s).contracts.codes (deal s).code c.in-Some.k
 contract c =
     let h = (start-k c).requires.0 in
-    code-at (sound-kept h) (sound-holds h) _ _ (sym c.find_contract.ensures ∙ c.in-At.is)
+    code-at (sound-kept h) (sound-holds h) _ _ (sym c.find_contract.ensures ∙ c.in-Some.is)
 
-side : (c : In-At-find_account) → let s = start-i c in Stands (book s).accounts.members s.args.number c.in-At-find_account.i
+side : (c : In-Some-find_account) → let s = start-i c in Stands (book s).accounts.members s.args.number c.in-Some-find_account.i
 side c =
     let h = (start-i c).requires.0 in
-    number-at (sound-kept h) (sound-holds h) _ _ (sym c.find_account.ensures ∙ c.in-At-find_account.is)
+    number-at (sound-kept h) (sound-holds h) _ _ (sym c.find_account.ensures ∙ c.in-Some-find_account.is)
 
 pub load_header-h-requires : goal.load_header-h-requires
 load_header-h-requires c = (sound-long c.requires.0).counts
@@ -75,28 +75,28 @@ returns-in_default c =
     (code-none (sound-kept h) (sound-holds h) (deal s).code (sym c.find_contract.ensures ∙ c.in_default.is))
 
 pub find_account-requires : goal.find_account-requires
-find_account-requires c = let h = (start-k (goal.at.find_account-requires c).In-At).requires.0 in ((sound-long h).counts, sound-members h)
+find_account-requires c = let h = (start-k (goal.at.find_account-requires c).In-Some).requires.0 in ((sound-long h).counts, sound-members h)
 
 pub returns-in_default-find_account : goal.returns-in_default-find_account
 returns-in_default-find_account c =
-    let s = start-k (goal.at.returns-in_default-find_account c).In-At in
+    let s = start-k (goal.at.returns-in_default-find_account c).In-Some in
     let h = s.requires.0 in
-    asked-unknown (book s) (deal s) s.args.number (live (before-k (goal.at.returns-in_default-find_account c).In-At)) (has_here (contract (goal.at.returns-in_default-find_account c).In-At))
+    asked-unknown (book s) (deal s) s.args.number (live (before-k (goal.at.returns-in_default-find_account c).In-Some)) (has_here (contract (goal.at.returns-in_default-find_account c).In-Some))
     (member-none (sound-kept h) (sound-holds h) s.args.number (sym c.find_account.ensures ∙ c.in_default-find_account.is))
 
 pub side_totals-requires : goal.side_totals-requires
 side_totals-requires c =
-    let s = start-i (goal.at.side_totals-requires c).In-At-find_account in record {
+    let s = start-i (goal.at.side_totals-requires c).In-Some-find_account in record {
       sound = s.requires.0;
-      live = live (before-k (before-i (goal.at.side_totals-requires c).In-At-find_account));
-      contract = contract (before-i (goal.at.side_totals-requires c).In-At-find_account);
-      side = side (goal.at.side_totals-requires c).In-At-find_account;
+      live = live (before-k (before-i (goal.at.side_totals-requires c).In-Some-find_account));
+      contract = contract (before-i (goal.at.side_totals-requires c).In-Some-find_account);
+      side = side (goal.at.side_totals-requires c).In-Some-find_account;
       range = s.requires.1.0;
       party = s.requires.1.1;
     }
 
 pub returns : goal.returns
 returns c =
-    let k = before-i (goal.at.returns c).In-At-find_account in
-    let s = start-i (goal.at.returns c).In-At-find_account in
-    asked-totals (book s) (deal s) s.args.number (live (before-k k)) (has_here (contract k)) (has_here (side (goal.at.returns c).In-At-find_account)) c.side_totals.ensures
+    let k = before-i (goal.at.returns c).In-Some-find_account in
+    let s = start-i (goal.at.returns c).In-Some-find_account in
+    asked-totals (book s) (deal s) s.args.number (live (before-k k)) (has_here (contract k)) (has_here (side (goal.at.returns c).In-Some-find_account)) c.side_totals.ensures

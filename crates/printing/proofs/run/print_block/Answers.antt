@@ -17,28 +17,6 @@ loop-w-init c = (
   ),
 )
 
-pub is_next-requires : goal.is_next-requires
-is_next-requires c = c.loop-w.invariant.1.1.0.inside
-
-pub print_next-p-requires-clause-sound : goal.print_next-p-requires-clause-sound
-print_next-p-requires-clause-sound c = c.loop-w.invariant.0
-
-pub print_next-p-requires-clause-at_in_bounds : goal.print_next-p-requires-clause-at_in_bounds
-print_next-p-requires-clause-at_in_bounds c =
-    let fits : Printable (length c.args.bytes.now) c.args.w.ended c.loop-w.p = c.is_next.ensures c.loop-w-test.true in
-    (fits.inside, omega (arith, fits.room, c.loop-w.invariant.1.0, c.requires.from_in_bounds.1))
-
-pub print_next-p-requires-clause-at_bound : goal.print_next-p-requires-clause-at_bound
-print_next-p-requires-clause-at_bound c =
-    let fits : Printable (length c.args.bytes.now) c.args.w.ended c.loop-w.p = c.is_next.ensures c.loop-w-test.true in
-    let reached = c.loop-w.invariant.1.1.0 in
-    omega (arith, fits.inside, reached.on, reached.along, c.requires.from_bound)
-
-pub loop-w-smaller : goal.loop-w-smaller
-loop-w-smaller c =
-    let fits : Printable (length c.args.bytes.now) c.args.w.ended c.loop-w.p = c.is_next.ensures c.loop-w-test.true in
-    rw fits.good c.print_next-p.ensures.nearer.less
-
 pub loop-w-preserved : goal.loop-w-preserved
 loop-w-preserved c =
     let fits : Printable (length c.args.bytes.now) c.args.w.ended c.loop-w.p = c.is_next.ensures c.loop-w-test.true in
@@ -59,12 +37,3 @@ loop-w-preserved c =
         ),
       ),
     )
-
-pub returns-clause-sound_2 : goal.returns-clause-sound_2
-returns-clause-sound_2 c = c.loop-w.invariant.0
-
-pub returns-clause-reaches : goal.returns-clause-reaches
-returns-clause-reaches c = c.loop-w.invariant.1.1.0
-
-pub returns-clause-printed_up_to : goal.returns-clause-printed_up_to
-returns-clause-printed_up_to c = c.loop-w.invariant.1.1.1

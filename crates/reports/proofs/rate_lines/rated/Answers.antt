@@ -1,30 +1,29 @@
+use Rattle.std.specs.Prelude.{Some}
 use mathlib.Core.Path.{◌≡◌, sym, ap, ◌∙◌}
 use Prim.Native.Nat.{◌<◌}
 use native.Mathlib.Omega.{arith}
-use borrow.Author.Rules.{rules}
 use Rattle.rates.specs.declared.Settled.{Settled}
 use Rattle.memory.specs.Layout.{outcome_at}
 use Rattle.standing.specs.Standing.{settled_of, view}
 use Rattle.standing.specs.SoundLaws.{sound-long}
-use Rattle.reports.specs.declared.Rated.TheVariants.{At}
 use Rattle.reports.specs.Reports.{rated_in}
 use Rattle.reports.specs.ShownLaws.{sound-settled, rated-none, rated-at}
 use Rattle.reports.proofs.rate_lines.rated.Goals as goal
-use Rattle.reports.proofs.rate_lines.rated.Goals.{After-find_outcome, In-At, Start}
+use Rattle.reports.proofs.rate_lines.rated.Goals.{After-find_outcome, In-Some, Start}
 
 abbrev start : After-find_outcome → Start
 start c = (goal.at.After-find_outcome c).Start
 
 -- the row that was found is one of the table's, and has what is shown of the code
-shown : (c : In-At) →
-    let s = start (goal.at.In-At c).After-find_outcome in
+shown : (c : In-Some) →
+    let s = start (goal.at.In-Some c).After-find_outcome in
     let counts = s.args.counts.now in
     let money = s.args.money.now in
-    let k = c.in-At.k in
-    (k < 6) × (rated_in (view counts money) s.args.code ≡ At (settled_of (outcome_at counts money k)))
+    let k = c.in-Some.k in
+    (k < 6) × (rated_in (view counts money) s.args.code ≡ Some (settled_of (outcome_at counts money k)))
 shown c =
-    let s = start (goal.at.In-At c).After-find_outcome in
-    rated-at s.requires s.args.code c.in-At.k (sym c.find_outcome.ensures ∙ c.in-At.is)
+    let s = start (goal.at.In-Some c).After-find_outcome in
+    rated-at s.requires s.args.code c.in-Some.k (sym c.find_outcome.ensures ∙ c.in-Some.is)
 
 pub find_outcome-requires : goal.find_outcome-requires
 find_outcome-requires c = ((sound-long c.requires).counts, sound-settled c.requires)
@@ -35,11 +34,11 @@ returns-in_default c =
     sym (rated-none s.requires s.args.code (sym c.find_outcome.ensures ∙ c.in_default.is))
 
 pub load_outcome-x-requires : goal.load_outcome-x-requires
-load_outcome-x-requires c = (sound-long (start (goal.at.load_outcome-x-requires c).After-find_outcome).requires, omega (arith, (shown (goal.at.load_outcome-x-requires c).In-At).0))
+load_outcome-x-requires c = (sound-long (start (goal.at.load_outcome-x-requires c).After-find_outcome).requires, omega (arith, (shown (goal.at.load_outcome-x-requires c).In-Some).0))
 
 pub returns : goal.returns
 returns c =
     let s = start (goal.at.returns c).After-find_outcome in
-    let same : c.load_outcome-x.result ≡ outcome_at s.args.counts.now s.args.money.now c.in-At.k =
+    let same : c.load_outcome-x.result ≡ outcome_at s.args.counts.now s.args.money.now c.in-Some.k =
     c.load_outcome-x.ensures in
-    ap (λ (t : Settled). At t) (c.settled_in.ensures ∙ ap settled_of same) ∙ sym (shown (goal.at.returns c).In-At).1
+    ap (λ (t : Settled). Some t) (c.settled_in.ensures ∙ ap settled_of same) ∙ sym (shown (goal.at.returns c).In-Some).1

@@ -20,39 +20,37 @@ left done at size exceptions more most room =
     let few : length first ≤ 399 = omega (arith, length-take done exceptions) in
     omega (arith, exceptions-length first)
 
-pub loop-done-init : goal.loop-done-init
+pub loop-exception-init : goal.loop-exception-init
 unfolding block
-loop-done-init c = let a = c.args in (omega arith, walk_begins (λ k. block exception_text (take k a.exceptions.now)) a.room.now a.at refl)
+loop-exception-init c = let a = c.args in walk_begins (λ k. block exception_text (take k a.exceptions.now)) a.room.now a.at refl
 
 pub put_word-space-requires : goal.put_word-space-requires
 put_word-space-requires c =
     let a = c.args in
-    let l = c.loop-done in
-    let behind = walk-room 21 (left l.done a.at (length a.room.now) a.exceptions.now (omega arith) c.requires.0 c.requires.1) l.invariant.1 in
+    let l = c.loop-exception in
+    let behind = walk-room 21 (left l.exception-index a.at (length a.room.now) a.exceptions.now (omega arith) c.requires.0 c.requires.1) l.invariant in
     omega (arith, behind)
 
 pub put_number-next-requires : goal.put_number-next-requires
 put_number-next-requires c =
     let a = c.args in
-    let l = c.loop-done in
-    let behind = walk-room 21 (left l.done a.at (length a.room.now) a.exceptions.now (omega arith) c.requires.0 c.requires.1) l.invariant.1 in
+    let l = c.loop-exception in
+    let behind = walk-room 21 (left l.exception-index a.at (length a.room.now) a.exceptions.now (omega arith) c.requires.0 c.requires.1) l.invariant in
     omega (arith, behind, c.put_word-space.ensures.place)
 
-pub loop-done-preserved : goal.loop-done-preserved
-loop-done-preserved c =
+pub loop-exception-preserved : goal.loop-exception-preserved
+loop-exception-preserved c =
     let a = c.args in
-    let l = c.loop-done in
+    let l = c.loop-exception in
     let listed = a.exceptions.now in
-    let n = get_or listed l.done 0 in
-    let fits = left l.done a.at (length a.room.now) listed (omega arith) c.requires.0 c.requires.1 in
-    let behind = walk-room 21 fits l.invariant.1 in (
-      omega arith,
-      walk-next 21 fits l.invariant.1 (exception-length n) (exceptions-more listed l.done (omega arith))
-          (put-more (omega (arith, behind, numeral-length n)) c.put_word-space.ensures c.put_number-next.ensures),
-    )
+    let n = get_or listed l.exception-index 0 in
+    let fits = left l.exception-index a.at (length a.room.now) listed (omega arith) c.requires.0 c.requires.1 in
+    let behind = walk-room 21 fits l.invariant in
+    walk-next 21 fits l.invariant (exception-length n) (exceptions-more listed l.exception-index (omega arith))
+    (put-more (omega (arith, behind, numeral-length n)) c.put_word-space.ensures c.put_number-next.ensures)
 
 pub shape_of-room : goal.shape_of-room
-shape_of-room c = c.loop-done.invariant.1.same
+shape_of-room c = c.loop-exception.invariant.same
 
 pub returns : goal.returns
-returns c = rw (take_all c.loop-done.done c.args.exceptions.now (omega arith)) at c.loop-done.invariant.1.put
+returns c = rw (take_all c.loop-exception.exception-index c.args.exceptions.now (omega arith)) at c.loop-exception.invariant.put

@@ -1,11 +1,7 @@
-use Prim.Native.Nat.{◌-◌, ◌≤◌}
 use lib.ListN.{take}
 use Rattle.wording.specs.Text.{fields_text}
 use Rattle.wording.specs.WalkLaws.{Walked}
 use Rattle.wording.proofs.record_line.put_fields.Given as goal
 
 abbrev pub invariant-loop-i : goal.invariant-loop-i
-invariant-loop-i l = (l.i ≤ l.n) × Walked (λ k. fields_text l.kind 0 (take k l.fields)) l.initial.room l.at l.i l.room l.next
-
-abbrev pub decreases-loop-i : goal.decreases-loop-i
-decreases-loop-i l = l.n - l.i
+invariant-loop-i l = Walked (λ k. fields_text l.kind 0 (take k l.field-items)) l.initial.room l.at l.i l.room l.next

@@ -18,13 +18,13 @@ returns-in_default c =
 
 pub put_kind-word-requires : goal.put_kind-word-requires
 put_kind-word-requires c =
-    let known = counted c.args.kind _ (sym c.count_of.ensures ∙ c.in-Of.is) in
+    let known = counted c.args.kind _ (sym c.count_of.ensures ∙ c.in-Some.is) in
     (known.0, omega (arith, c.requires.1))
 
 pub put_fields-last-requires : goal.put_fields-last-requires
 put_fields-last-requires c =
     let a = c.args in
-    let known = counted a.kind _ (sym c.count_of.ensures ∙ c.in-Of.is) in (
+    let known = counted a.kind _ (sym c.count_of.ensures ∙ c.in-Some.is) in (
       known.1,
       (
         omega (arith, known.1, counts-most a.kind),

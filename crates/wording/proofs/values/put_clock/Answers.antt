@@ -4,11 +4,6 @@ use Rattle.wording.proofs.values.put_clock.Goals as goal
 
 pub returns : goal.returns
 returns c =
-    let seconds = c.before.before in
-    let second = seconds.before.before.before.before in
-    let minutes = second.before.before.before.before.before in
-    let colon = minutes.before.before.before.before in
-    let hours = colon.before.before.before.before.before in
     put-more (omega (arith, c.requires)) c.put_two-hours.ensures
     (put-more (omega (arith, c.requires)) c.put_word-colon.ensures
     (put-more (omega (arith, c.requires)) c.put_two-minutes.ensures

@@ -4,5 +4,4 @@ use Rattle.wording.proofs.values.put_four.Goals as goal
 
 pub returns : goal.returns
 returns c =
-    let second = c.before.before in
     put-more (omega (arith, c.requires)) c.put_two-next.ensures c.put_two.ensures

@@ -28,20 +28,14 @@ size_is c = c.size-far.ensures ∙ ap nat_abs (back c.ranges.rate)
 
 pub returns-then-rate-lt0 : goal.returns-then-rate-lt0
 returns-then-rate-lt0 c =
-    let size_is : c.size-far.result ≡ nat_abs c.args.rate =
-    c.size-far.ensures ∙ ap nat_abs (back c.ranges.rate) in
     let below : (minus ∷ []) ++ percent c.size-far.result ≡ rate_text c.args.rate =
-    ap (λ size. (minus ∷ []) ++ percent size) size_is
+    ap (λ size. (minus ∷ []) ++ percent size) (size_is (goal.at.returns-then-rate-lt0 c).After-size-far)
     ∙ text-below c.args.rate (lt_yes (back c.ranges.rate) refl c.if-rate-lt0.true) in
-    let put = c.before.before in
-    let word = put.before.before.before.before in
     rw below at
     (put-more (omega (arith, c.requires, percent-length c.size-far.result)) c.put_word-next.ensures c.put_percent.ensures)
 
 pub returns : goal.returns
 returns c =
-    let size_is : c.size-far.result ≡ nat_abs c.args.rate =
-    c.size-far.ensures ∙ ap nat_abs (back c.ranges.rate) in
     let above : percent c.size-far.result ≡ rate_text c.args.rate =
-    ap percent size_is ∙ text-above c.args.rate (lt_no (back c.ranges.rate) refl c.if-rate-lt0.false) in
+    ap percent (size_is (goal.at.returns c).After-size-far) ∙ text-above c.args.rate (lt_no (back c.ranges.rate) refl c.if-rate-lt0.false) in
     rw above at c.put_percent-2.ensures

@@ -1,8 +1,0 @@
-use Rattle.std.specs.Prelude.{◌-◌, ◌≤◌}
-use Rattle.explaining.proofs.followed.is_listed.Given as goal
-
-abbrev pub invariant-loop-k : goal.invariant-loop-k
-invariant-loop-k l = l.k ≤ 6
-
-abbrev pub decreases-loop-k : goal.decreases-loop-k
-decreases-loop-k l = 6 - l.k

@@ -1,9 +1,0 @@
--- Only kind 0 announces exceptions.
-use borrow.Author.Tests.{eq-eqb, ne_eqb}
-use Rattle.fields.proofs.announced.Goals as goal
-
-pub returns-then-kind-eq0 : goal.returns-then-kind-eq0
-returns-then-kind-eq0 c = rw (eq-eqb _ 0 c.if-kind-eq0.true)
-
-pub returns-else-kind-eq0 : goal.returns-else-kind-eq0
-returns-else-kind-eq0 c = rw (ne_eqb _ 0 c.if-kind-eq0.false)
