@@ -38,7 +38,7 @@ use Rattle.trail.specs.declared.Row.{Row}
 use Rattle.trail.specs.Rows.{row_at, rows_in}
 use Rattle.trail.specs.Tables.{Stored}
 use Rattle.trail.specs.TableLaws.{row_more}
-use Rattle.particulars.specs.declared.Standing.{Standing}
+use Rattle.particulars.specs.declared.Stood.{Stood}
 use Rattle.particulars.specs.Particulars.{standing_of}
 use Rattle.desk.specs.Lines.{Closing}
 use Rattle.desk.specs.Trails.{is_side, row_of, rows_today, Trailed}
@@ -379,7 +379,7 @@ trail-begins n m p q = record { memory = m; rows = refl; counts-long = p; money-
 -- ---- after an accepted close its lines can be asked for, of the rows that the table had before it
 pub closed-next : {n : ℕ} {h : List Entry} {counts : List ℕ} {money : List ℤ} {row_counts : List ℕ} {row_money : List ℤ} {used : ℕ}
     → Trailed n h counts money row_counts row_money used → {e : Entry} {counts' : List ℕ} {money' : List ℤ} {row_counts' : List ℕ} {row_money' : List ℤ} {used' : ℕ}
-    → FollowedOn n e Closed counts money row_counts row_money used counts' money' row_counts' row_money' used' → {s : Standing}
+    → FollowedOn n e Closed counts money row_counts row_money used counts' money' row_counts' row_money' used' → {s : List Stood}
     → s ≡ standing_of (view counts money) n → Closing counts' money' row_counts' row_money' used s
 closed-next {n} {h} {used = used} t {e} {counts'} {money'} {row_counts'} {row_money'} f {s} q = go refl (it-was t f.called)
   where

@@ -1,7 +1,7 @@
 -- The lines of a close are the definition's: the loop's step, and from the table and the memory to the history.
 use Rattle.std.specs.Prelude.{◌≡◌, Bool, true, false, cond, ◌||◌, ℕ, ◌+◌, ◌*◌, ◌≤◌, ◌<◌, eqb, ℤ, pos, ◌+ℤ◌, length, get_or, take, drop, set}
 use Rattle.std.proofs.Math.Path.{refl, ap}
-use Rattle.std.proofs.Common.{sym, ◌∙◌, ap₂, subst, add-one, arith, eqb-true, length-set, take-suc, take_all, get_or-set_same, get_or-set_other}
+use Rattle.std.proofs.Common.{map-id, sym, ◌∙◌, ap₂, subst, add-one, arith, eqb-true, length-set, take-suc, take_all, get_or-set_same, get_or-set_other}
 use mathlib.Core.List.{List, [], ◌∷◌, ◌++◌, map, map-map}
 use Rattle.std.proofs.Math.Decide.{dec_lt}
 use Rattle.std.proofs.lemmas.List.{length-map}
@@ -11,20 +11,19 @@ use Rattle.lists.specs.Keyed.{has-at}
 use Rattle.lists.specs.All.{All, none_left, and-more}
 use Rattle.lists.specs.PaddedLaws.{padded-full}
 use Rattle.lists.specs.Rows.{get_d-map-below}
-use Rattle.lists.specs.Tabulate.{tab-length, tab-is, tab-at}
+use Rattle.lists.specs.Tabulate.{tab-length, tab-is}
 use Rattle.lists.specs.Those.{those, those-map}
 use Rattle.whole.specs.Over.{sum_over, over-ext}
 use Rattle.whole.specs.Sums.{sum_z}
 use Rattle.whole.specs.Within.{Within}
 use Rattle.records.specs.Records.{Entry}
-use Rattle.rates.specs.Rules.{number_of}
 use Rattle.rates.specs.declared.Settled.{Settled}
-use Rattle.model.specs.Book.{Book, is_member, is_listed}
+use Rattle.model.specs.Book.{Book, no_settled, is_member, is_listed}
 use Rattle.model.specs.Calls.{close}
 use Rattle.model.specs.Effects.{closed_day, after}
 use Rattle.model.specs.Refusals.{tests}
 use Rattle.model.specs.Answers.{called}
-use Rattle.model.specs.History.{run_from, run, log, variation_in}
+use Rattle.model.specs.History.{run_from, run, log}
 use Rattle.model.specs.Promises.{worth_at}
 use Rattle.model.proofs.StepLaws.{Passed, needed, accepted-by}
 use Rattle.model.specs.Ranged.{Ranged}
@@ -40,30 +39,25 @@ use Rattle.standing.specs.StandingLaws.{view-is, sound-of}
 use Rattle.trail.specs.declared.Row.{Row}
 use Rattle.trail.specs.Rows.{row_at, rows_in, worth, with_amount, priced, earned}
 use Rattle.trail.specs.Tables.{Modest}
-use Rattle.particulars.specs.declared.Standing.{Standing}
+use Rattle.particulars.specs.declared.Stood.{Stood}
+use Rattle.particulars.specs.Particulars.{stood_of, no_stood}
 use Rattle.desk.specs.declared.contract_lines.Line.{Line}
-use Rattle.desk.specs.declared.contract_lines.Lines.{Lines}
 use Rattle.desk.specs.Trails.{rows_today}
 use Rattle.desk.specs.TrailLaws.{rows_few, rows-modest, rows-listed, explained}
-use Rattle.desk.specs.Lines.{rate_in, line_in, line_at, Table, Lined, amounted, amounted_in, StoodBefore, AllLined, no_line, column, columns_of, JustClosed, lines_of, Explained}
+use Rattle.desk.specs.Lines.{rate_in, line_in, line_at, Table, Lined, amounted, amounted_in, codes_of, StoodBefore, AllLined, JustClosed, line_after, lines_of, Explained}
 
--- ---- a line, part by part; six of them, and their columns
-pub line-parts : (x : Line) {rate carried sum : ℤ} {rule used : ℕ}
-    → rate ≡ x.rate → rule ≡ x.rule → used ≡ x.used → carried ≡ x.carried → sum ≡ x.sum
-    → record { rate = rate; rule = rule; used = used; carried = carried; sum = sum } ≡ x
-line-parts x p q r s t = rw (p, q, r, s, t)
+-- ---- a line, part by part
+pub line-parts : (x : Line) {settled : Settled} {carried sum : ℤ} → settled ≡ x.settled → carried ≡ x.carried → sum ≡ x.sum
+    → record { settled = settled; carried = carried; sum = sum } ≡ x
+line-parts x p q r = rw (p, q, r)
 
 pub worth-parts : {lots traded rate lots' traded' rate' : ℤ} → lots ≡ lots' → traded ≡ traded' → rate ≡ rate'
     → worth_at rate (record { lots = lots; rate = traded }) ≡ worth_at rate' (record { lots = lots'; rate = traded' })
 worth-parts p q r = rw (p, q, r)
 
-pub six-same : {a b c d e f a' b' c' d' e' f' : ℤ} → a ≡ a' → b ≡ b' → c ≡ c' → d ≡ d' → e ≡ e' → f ≡ f'
-    → a ∷ b ∷ c ∷ d ∷ e ∷ f ∷ [] ≡ a' ∷ b' ∷ c' ∷ d' ∷ e' ∷ f' ∷ []
-six-same p q r s t u = rw (p, q, r, s, t, u)
-
-pub columns-parts : (x : Lines) {rates carried sums : List ℤ} → rates ≡ x.rates → carried ≡ x.carried → sums ≡ x.sums
-    → record { rates = rates; rules = x.rules; used = x.used; carried = carried; sums = sums } ≡ x
-columns-parts x p q r = rw (p, q, r)
+-- in place of a line where a list has none
+pub no_line : Line
+no_line = record { settled = no_settled; carried = pos 0; sum = pos 0 }
 
 -- ---- rows that have their amounts in some contracts
 module _ (rate : ℕ → ℤ) where
@@ -133,15 +127,21 @@ module _ (rate : ℕ → ℤ) where
         go true = record { lots = m.lots; rate = m.rate }
         go false = m
 
+-- ---- a contract that stood before a close was settled by it
+pub code-at : {after : Book} {s : List Stood} → StoodBefore after s → (k : ℕ) → k < 6 → has (get_or s k no_stood).code after.results.codes ≡ true
+code-at {after} {s} b k q =
+    rw (sym (get_d-map-below (λ x. x.code) s k no_stood 0 (omega (arith, b.six))), sym b.codes)
+    (has-at (codes_of s) k (omega (arith, b.six, length-map s (λ x. x.code))))
+
 -- ---- the loop over the contracts: the lines of those passed, and their rows with amounts
-pub record LinedTo (after : Book) (row_counts : List ℕ) (row_money : List ℤ) (used : ℕ) (s : Standing) (k : ℕ) (lines : List Line) (row_money' : List ℤ) : Type 0 where
+pub record LinedTo (after : Book) (row_counts : List ℕ) (row_money : List ℤ) (used : ℕ) (s : List Stood) (k : ℕ) (lines : List Line) (row_money' : List ℤ) : Type 0 where
   pub many : length lines ≡ 6
   pub made : (i : ℕ) → i < k → get_or lines i no_line ≡ line_at after (rows_in row_counts row_money used) s i
-  pub rows : rows_in row_counts row_money' used ≡ map (amounted_in (rate_in after) (take k s.codes)) (rows_in row_counts row_money used)
+  pub rows : rows_in row_counts row_money' used ≡ map (amounted_in (rate_in after) (take k (codes_of s))) (rows_in row_counts row_money used)
   pub behind : drop (used * 6) row_money' ≡ drop (used * 6) row_money
   pub long : length row_money' ≡ length row_money
 
-module _ (after : Book) (row_counts : List ℕ) (row_money : List ℤ) (used : ℕ) (s : Standing) where
+module _ (after : Book) (row_counts : List ℕ) (row_money : List ℤ) (used : ℕ) (s : List Stood) where
   pub lined-none : (lines : List Line) → length lines ≡ 6 → LinedTo after row_counts row_money used s 0 lines row_money
   lined-none lines six = record {
     many = six;
@@ -158,27 +158,26 @@ module _ (after : Book) (row_counts : List ℕ) (row_money : List ℤ) (used : �
       few = t.few;
       counts-long = t.counts-long;
       money-long = omega (arith, p.long, t.money-long);
-      modest = subst (All Modest) (sym p.rows) (same-modest (rate_in after) (take k s.codes) t.modest);
+      modest = subst (All Modest) (sym p.rows) (same-modest (rate_in after) (take k (codes_of s)) t.modest);
     }
 
     pub lined-next : StoodBefore after s → k < 6 → {line : Line} {row_money'' : List ℤ}
-        → Lined after row_counts row_money' used (get_or s.codes k 0) (get_or s.nets k (pos 0)) (get_or s.previous k (pos 0)) line row_money''
+        → Lined after row_counts row_money' used (get_or s k no_stood) line row_money''
         → LinedTo after row_counts row_money used s (k + 1) (set lines k line) row_money''
     lined-next b q {line} {row_money''} l =
-        let c = get_or s.codes k 0 in
+        let c = (get_or s k no_stood).code in
+        let long-codes : length (codes_of s) ≡ 6 = length-map s (λ x. x.code) ∙ b.six in
         let rows₀ = rows_in row_counts row_money used in
         let here : line ≡ line_at after rows₀ s k = l.line ∙ ap (λ z. record {
-          rate = rate_in after c;
-          rule = number_of (after.results.settled c).rule;
-          used = (after.results.settled c).used;
+          settled = after.results.settled c;
           carried = (line_at after rows₀ s k).carried;
           sum = z +ℤ (line_at after rows₀ s k).carried;
-        }) (ap (earned c (rate_in after c)) p.rows ∙ same-earned (rate_in after) (take k s.codes) c (rate_in after c) rows₀) in
+        }) (ap (earned c (rate_in after c)) p.rows ∙ same-earned (rate_in after) (take k (codes_of s)) c (rate_in after c) rows₀) in
         record {
           many = length-set lines k line ∙ p.many;
           made = λ i r. at i r (dec_lt i k) here;
-          rows = l.rows ∙ ap (map (priced c (rate_in after c))) p.rows ∙ rows_next (rate_in after) (take k s.codes) c rows₀
-              ∙ ap (λ ks. map (amounted_in (rate_in after) ks) rows₀) (sym (take-suc s.codes k 0 (omega (arith, b.six))) ∙ ap (λ j. take j s.codes) (sym (add-one k)));
+          rows = l.rows ∙ ap (map (priced c (rate_in after c))) p.rows ∙ rows_next (rate_in after) (take k (codes_of s)) c rows₀
+              ∙ ap (λ ks. map (amounted_in (rate_in after) ks) rows₀) (ap (λ x. take k (codes_of s) ++ (x ∷ [])) (sym (get_d-map-below (λ x. x.code) s k no_stood 0 (omega (arith, b.six)))) ∙ sym (take-suc (codes_of s) k 0 (omega (arith, long-codes))) ∙ ap (λ j. take j (codes_of s)) (sym (add-one k)));
           behind = l.behind ∙ p.behind;
           long = l.long ∙ p.long;
         }
@@ -193,14 +192,14 @@ module _ (after : Book) (row_counts : List ℕ) (row_money : List ℤ) (used : �
     pub lined-all : StoodBefore after s → 6 ≤ k → k ≤ 6 → AllLined after row_counts row_money used s lines row_money'
     lined-all b low high = record {
       lines = sym (tab-is no_line (line_at after (rows_in row_counts row_money used) s) 6 lines p.many (λ i q. sym (p.made i (omega arith))));
-      rows = p.rows ∙ ap (λ ks. map (amounted_in (rate_in after) ks) (rows_in row_counts row_money used)) (take_all k s.codes (omega (arith, b.six)));
+      rows = p.rows ∙ ap (λ ks. map (amounted_in (rate_in after) ks) (rows_in row_counts row_money used)) (take_all k (codes_of s) (omega (arith, b.six, length-map s (λ x. x.code))));
       behind = p.behind;
       long = p.long;
     }
 
 -- ---- a close on a history
 module _ {n : ℕ} {h : List Entry} {e : Entry} {final : ℤ} {counts : List ℕ} {money : List ℤ} {row_counts : List ℕ} {row_money : List ℤ} {used : ℕ}
-    {s : Standing} (j : JustClosed n h e final counts money row_counts row_money used s) where
+    {s : List Stood} (j : JustClosed n h e final counts money row_counts row_money used s) where
   abbrev b : Book
   b = run h
 
@@ -222,36 +221,17 @@ module _ {n : ℕ} {h : List Entry} {e : Entry} {final : ℤ} {counts : List ℕ
   unfolding after
   closed_is = accepted-called b e j.accepted j.closes
 
-  before-full : s ≡ record {
-    codes = codes;
-    previous = map (λ c. (b.contracts.terms c).previous) codes;
-    nets = map (λ c. (b.accounts.position n c).before) codes;
-  }
-  before-full = j.before ∙ rw (
-    padded-full 6 0 codes six,
-    padded-full 6 (pos 0) (map (λ c. (b.contracts.terms c).previous) codes) (length-map codes (λ c. (b.contracts.terms c).previous) ∙ six),
-    padded-full 6 (pos 0) (map (λ c. (b.accounts.position n c).before) codes) (length-map codes (λ c. (b.accounts.position n c).before) ∙ six),
-  )
+  before-full : s ≡ map (stood_of b n) codes
+  before-full = j.before ∙ padded-full 6 no_stood (map (stood_of b n) codes) (length-map codes (stood_of b n) ∙ six)
 
-  codes-are : s.codes ≡ codes
-  codes-are = ap (λ (x : Standing). x.codes) before-full
+  codes-are : codes_of s ≡ codes
+  codes-are = ap codes_of before-full ∙ map-map (λ x. x.code) (stood_of b n) codes ∙ map-id codes
 
-  module _ (k : ℕ) (q : k < 6) where
-    code_is : get_or s.codes k 0 ≡ get_or codes k 0
-    code_is = ap (λ l. get_or l k 0) codes-are
+  stood-is : (k : ℕ) → k < 6 → get_or s k no_stood ≡ stood_of b n (get_or codes k 0)
+  stood-is k q = ap (λ (l : List Stood). get_or l k no_stood) before-full ∙ get_d-map-below (stood_of b n) codes k 0 no_stood (omega (arith, six))
 
-    net-is : get_or s.nets k (pos 0) ≡ (b.accounts.position n (get_or codes k 0)).before
-    net-is =
-        ap (λ (x : Standing). get_or x.nets k (pos 0)) before-full
-        ∙ get_d-map-below (λ c. (b.accounts.position n c).before) codes k 0 (pos 0) (omega (arith, six))
-
-    previous-is : get_or s.previous k (pos 0) ≡ (b.contracts.terms (get_or codes k 0)).previous
-    previous-is =
-        ap (λ (x : Standing). get_or x.previous k (pos 0)) before-full
-        ∙ get_d-map-below (λ c. (b.contracts.terms c).previous) codes k 0 (pos 0) (omega (arith, six))
-
-    code-listed : is_listed b (get_or codes k 0) ≡ true
-    code-listed = has-at codes k (omega (arith, six))
+  code-listed : (k : ℕ) → k < 6 → is_listed b (get_or codes k 0) ≡ true
+  code-listed k q = has-at codes k (omega (arith, six))
 
   pub closed-sound : Sound counts money
   closed-sound = sound-of (known (e ∷ h)) j.memory
@@ -259,10 +239,10 @@ module _ {n : ℕ} {h : List Entry} {e : Entry} {final : ℤ} {counts : List ℕ
   pub stood-before : StoodBefore (view counts money) s
   stood-before = subst (λ v. StoodBefore v s) (sym (seen ∙ closed_is)) (record {
     codes = codes-are;
-    six = ap length codes-are ∙ six;
-    nets = λ k q. subst (Within 20000) (sym (net-is k q)) ((known h).sized.dealt.befores n (get_or codes k 0));
-    previous = λ k q. subst (Within 100000) (sym (previous-is k q)) ((known h).sized.contracts.terms (get_or codes k 0)).previous;
-    rates = λ k q. subst (λ c. Within 100000 (rate_in (closed_day b final) c)) (sym (code_is k q))
+    six = ap length before-full ∙ length-map codes (stood_of b n) ∙ six;
+    nets = λ k q. rw (stood-is k q) ((known h).sized.dealt.befores n (get_or codes k 0));
+    previous = λ k q. rw (stood-is k q) ((known h).sized.contracts.terms (get_or codes k 0)).previous;
+    rates = λ k q. rw (stood-is k q)
         (subst (λ (x : Settled). Within 100000 x.rate) (sym (when_true _ _ (code-listed k q)))
         (rate-fair b final (known h).sized.contracts.terms (known h).sized.contracts.tallies
         (subst Ranged j.closes (ranges e (accepted-by b e j.accepted).ranges)) (get_or codes k 0)));
@@ -279,35 +259,29 @@ module _ {n : ℕ} {h : List Entry} {e : Entry} {final : ℤ} {counts : List ℕ
       }
 
   -- the sums of all contracts come to the variation of the account's bill
-  pub sums-billed : is_member b n ≡ true → sum_z (lines_of b (called b e) n final).sums ≡ ((called b e).accounts.held n).variation
-  sums-billed m = sym ((closes_kept h e final j.accepted j.closes).bills n m).0
+  pub sums-billed : is_member b n ≡ true → sum_over (λ x. x.sum) (lines_of b (called b e) n final) ≡ ((called b e).accounts.held n).variation
+  sums-billed m = ap sum_z (map-map (λ x. x.sum) (line_after b (called b e) n final) codes) ∙ sym ((closes_kept h e final j.accepted j.closes).bills n m).0
 
-  -- ---- by column
+  -- ---- contract by contract
   module _ {lines : List Line} {row_money' : List ℤ} (a : AllLined (view counts money) row_counts row_money used s lines row_money') where
     abbrev line_of : ℕ → Line
-    line_of c = line_in (called b e) (rows_today n (log h)) c (b.accounts.position n c).before (b.contracts.terms c).previous
+    line_of c = line_in (called b e) (rows_today n (log h)) (stood_of b n c)
 
-    line-is : (k : ℕ) → k < 6 → get_or lines k no_line ≡ line_of (get_or codes k 0)
+    -- the sum of a listed contract's lines is what the close books
+    booked : (c : ℕ) → is_listed b c ≡ true → line_of c ≡ line_after b (called b e) n final c
+    booked c on = line-parts (line_after b (called b e) n final c) refl refl (explained n h e final j.accepted j.closes c on)
+
+    line-is : (k : ℕ) → k < 6 → line_at (view counts money) (rows_in row_counts row_money used) s k ≡ get_or (lines_of b (called b e) n final) k no_line
     line-is k q =
-        ap (λ (l : List Line). get_or l k no_line) a.lines
-        ∙ tab-at no_line (line_at (view counts money) (rows_in row_counts row_money used) s) 6 k q
-        ∙ ap₂ (λ (v : Book) (rows : List Row). line_at v rows s k) seen j.rows
-        ∙ rw (code_is k q, net-is k q, previous-is k q)
+        ap₂ (λ (v : Book) (rows : List Row). line_at v rows s k) seen j.rows
+        ∙ ap (line_in (called b e) (rows_today n (log h))) (stood-is k q)
+        ∙ booked (get_or codes k 0) (code-listed k q)
+        ∙ sym (get_d-map-below (line_after b (called b e) n final) codes k 0 no_line (omega (arith, six)))
 
-    column-is : {A : Type 0} (d : A) (f : Line → A) (F : ℕ → A) → ((c : ℕ) → is_listed b c ≡ true → f (line_of c) ≡ F c) → column f lines ≡ map F codes
-    column-is d f F same = tab-is d (λ k. f (get_or lines k no_line)) 6 (map F codes) (length-map codes F ∙ six) (λ k q.
-        ap f (line-is k q) ∙ same (get_or codes k 0) (code-listed k q)
-        ∙ sym (get_d-map-below F codes k 0 d (omega (arith, six))))
-
-    pub lines-explained : Explained n h e final row_counts row_money used (columns_of lines) row_money'
+    pub lines-explained : Explained n h e final row_counts row_money used lines row_money'
     lines-explained = record {
-      lines = rw (
-        column-is (pos 0) (λ x. x.rate) (rate_in (called b e)) (λ c on. refl),
-        column-is 0 (λ x. x.rule) (λ c. number_of ((called b e).results.settled c).rule) (λ c on. refl),
-        column-is 0 (λ x. x.used) (λ c. ((called b e).results.settled c).used) (λ c on. refl),
-        column-is (pos 0) (λ x. x.carried) (λ c. (line_of c).carried) (λ c on. refl),
-        column-is (pos 0) (λ x. x.sum) (variation_in b final n) (λ c on. explained n h e final j.accepted j.closes c on),
-      );
+      lines = a.lines ∙ tab-is no_line (line_at (view counts money) (rows_in row_counts row_money used) s) 6 (lines_of b (called b e) n final)
+          (length-map codes (line_after b (called b e) n final) ∙ six) line-is;
       rows = a.rows
           ∙ ap₂ (λ (ks : List ℕ) (rows : List Row). map (amounted_in (rate_in (view counts money)) ks) rows) codes-are j.rows
           ∙ rows_all (rate_in (view counts money)) codes (rows-listed n h)

@@ -90,6 +90,7 @@ fn note(
 
 // The record at a place of some bytes, on a book; an accepted trade of the account gets a row, and an accepted close empties the table (its rows
 // stay in memory until they are written over).
+// The table is lent as the caller keeps it, with the number of its rows beside, since docs/CONTRACTS.md promises this call.
 pub fn follow(
     counts: &mut [u64; COUNTS],
     money: &mut [i64; MONEY],

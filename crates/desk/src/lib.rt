@@ -5,5 +5,5 @@
 mod contract_lines;
 mod following;
 
-pub use contract_lines::{Lines, close_lines};
+pub use contract_lines::{Line, close_lines};
 pub use following::{Followed, follow};

@@ -26,10 +26,7 @@ fn number_of(text: &[u8]) -> Result<u64, Unasked> {
     if text.is_empty() {
         return Err(Unasked);
     }
-    match number_in(text) {
-        Some(number) => Ok(number),
-        None => Err(Unasked),
-    }
+    number_in(text).ok_or(Unasked)
 }
 
 // The argument at a place, in lent room, if it is not left out.

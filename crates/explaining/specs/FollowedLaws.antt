@@ -18,13 +18,13 @@ use Rattle.dealing.specs.Dealing.{trade_of}
 use Rattle.book.specs.declared.calls.Answer.{Answer}
 use Rattle.book.specs.declared.calls.Answer.TheVariants.{Closed}
 use Rattle.book.specs.Taken.{deal_in}
-use Rattle.particulars.specs.declared.Standing.{Standing}
+use Rattle.particulars.specs.declared.Stood.{Stood}
 use Rattle.particulars.specs.Particulars.{standing_of}
 use Rattle.desk.specs.declared.following.Followed.{Followed}
 use Rattle.desk.specs.Trails.{Trailed}
 use Rattle.desk.specs.Follows.{Kept, FollowedOn, FollowedBy, FollowedAt, Followable}
 use Rattle.desk.specs.FollowLaws.{trail-begins, closed-next}
-use Rattle.desk.specs.declared.contract_lines.Lines.{Lines}
+use Rattle.desk.specs.declared.contract_lines.Line.{Line}
 use Rattle.desk.specs.Lines.{Closing, ExplainedAll}
 use Rattle.desk.specs.LineLaws.{closed-table}
 
@@ -40,7 +40,7 @@ pub fresh-followable : (n : ℕ) {counts : List ℕ} {money : List ℤ} {row_cou
 fresh-followable n holds labels amounts = record { history = []; trailed = trail-begins n holds labels amounts }
 
 -- a close that was explained can be shown: its rows are in the table
-module _ {counts : List ℕ} {money : List ℤ} {row_counts : List ℕ} {row_money row_money' : List ℤ} {used : ℕ} {s : Standing} {r : Lines}
+module _ {counts : List ℕ} {money : List ℤ} {row_counts : List ℕ} {row_money row_money' : List ℤ} {used : ℕ} {s : List Stood} {r : List Line}
     (x : ExplainedAll counts money row_counts row_money used s r row_money') (c : Closing counts money row_counts row_money used s) where
   pub explained-long : length row_money' ≡ length row_money
   explained-long = (x.explains c.account c.history c.entry c.final c.just).long
@@ -107,7 +107,7 @@ module _ {n : ℕ} {bytes : List ℕ} {at : ℕ} {counts counts' : List ℕ} {mo
       kept on = rw closes at on.tabled
 
       -- an accepted close has what its lines are found from
-      pub followed-closing : {s : Standing} → s ≡ standing_of (view counts money) n → Closing counts' money' row_counts' row_money' used s
+      pub followed-closing : {s : List Stood} → s ≡ standing_of (view counts money) n → Closing counts' money' row_counts' row_money' used s
       followed-closing standing = taken (λ e rest h place on.
           closed-next g.trailed
           (subst (λ x. FollowedOn n e x counts money row_counts row_money used counts' money' row_counts' row_money' rows) closes on) standing)

@@ -8,15 +8,16 @@ ghost use Rattle.explaining.specs.States.{Further};
 
 use book::{Answer, deal_in};
 use dealing::Deal;
-use desk::{Lines, close_lines, follow};
+use desk::{Line, close_lines, follow};
 use fields::WIDTH;
 use holdings::Totals;
 use memory::{COUNTS, MONEY};
-use pages::{Close, LISTED, Notes, Question, is_shown, put_close, put_refused};
-use particulars::{Parts, Standing, parts_of, standing_of, totals_asked};
+use pages::{Close, Contract, LISTED, Notes, Question, is_shown, put_close, put_refused};
+use particulars::{Stood, parts_of, standing_of, totals_asked};
 use ranges::in_range;
 use records::read_record;
-use reports::{Bill, bill_of, day_of};
+use reports::{bill_of, day_of};
+use std::array;
 
 // What was found of the close that is asked for.
 #[derive(Clone, Copy)]
@@ -59,20 +60,14 @@ pub(crate) fn first_state() -> State
 fn unpaid_of(counts: &[u64; COUNTS], money: &[i64; MONEY], account: u64) -> i64
     requires { Sound counts.now money.now }
 {
-    let Some(bill) = bill_of(counts, money, account) else {
-        return 0;
-    };
-    bill.due
+    bill_of(counts, money, account).map_or(0, |bill| bill.due)
 }
 
 // The totals that a trade in range would give the account, if it is a side.
 fn side_asked(counts: &[u64; COUNTS], money: &[i64; MONEY], t: Deal, account: u64) -> Option<Totals>
     requires { Sound counts.now money.now × GoodTrade (trade_of t) }
 {
-    if account == t.buyer {
-        return totals_asked(counts, money, t, account);
-    }
-    if account == t.seller {
+    if account == t.buyer || account == t.seller {
         return totals_asked(counts, money, t, account);
     }
     None
@@ -245,36 +240,23 @@ fn is_wanted(q: Question, day: u64) -> bool {
 }
 
 // Whether the code that is asked for was listed.
-fn is_listed(q: Question, before: Standing) -> bool {
-    q.code.is_none_or(|code| before.codes.contains(&code))
+fn is_listed(q: Question, contracts: [Contract; 6]) -> bool {
+    q.code.is_none_or(|code| contracts.iter().any(|contract| contract.stood.code == code))
 }
 
-// What is explained of a close.
-fn close_of(
-    day: u64,
-    before: Standing,
-    lines: Lines,
-    unpaid: i64,
-    bill: Bill,
-    parts: Parts,
-) -> Close {
-    let rates = lines.rates;
-    let rules = lines.rules;
-    let used = lines.used;
-    let carried = lines.carried;
-    let sums = lines.sums;
-    Close {
-        day,
-        before,
-        rates,
-        rules,
-        used,
-        carried,
-        sums,
-        unpaid,
-        bill,
-        parts,
+// What is explained of a contract.
+fn contract_of(stood: Stood, line: Line) -> Contract {
+    Contract {
+        stood,
+        settled: line.settled,
+        carried: line.carried,
+        sum: line.sum,
     }
+}
+
+// The same of the six.
+fn contracts_of(before: [Stood; 6], lines: [Line; 6]) -> [Contract; 6] {
+    array::from_fn(|k| contract_of(before[k], lines[k]))
 }
 
 // Explains an accepted close on the page, if it can be explained.
@@ -287,8 +269,7 @@ fn explained(
     page: &mut [u8],
     q: Question,
     s: State,
-    before: Standing,
-    lines: Lines,
+    contracts: [Contract; 6],
     unpaid: i64,
 ) -> Found
     requires sound { Sound counts.now money.now }
@@ -305,10 +286,16 @@ fn explained(
     let Some(parts) = parts_of(counts, money, q.account) else {
         return Found::NoAccount(day);
     };
-    if !is_listed(q, before) {
+    if !is_listed(q, contracts) {
         return Found::NoContract(day);
     }
-    let x = close_of(day, before, lines, unpaid, bill, parts);
+    let x = Close {
+        day,
+        contracts,
+        unpaid,
+        bill,
+        parts,
+    };
     let rows = s.rows;
     let length = put_close(page, labels, amounts, rows, x, room, s.notes, q);
     Found::Page(length)
@@ -350,8 +337,9 @@ fn take_close(
         return moved(s, taken.next, taken.rows, s.notes);
     };
     let lines = close_lines(&*counts, &*money, &*labels, &mut *amounts, s.rows, before);
+    let contracts = contracts_of(before, lines);
     let found = explained(
-        &*counts, &*money, &*labels, &*amounts, room, page, q, s, before, lines, unpaid,
+        &*counts, &*money, &*labels, &*amounts, room, page, q, s, contracts, unpaid,
     );
     day_over(s, taken.next, found)
 }

@@ -1,5 +1,5 @@
 -- What packing a text in blocks keeps from turn to turn.
-use Rattle.std.specs.Prelude.{◌≡◌, true, false, cond, ℕ, ◌+◌, ◌-◌, ◌≤◌, ◌<◌, Result, IfErr}
+use Rattle.std.specs.Prelude.{ℕ, ◌+◌, ◌≤◌, ◌<◌, Result, IfErr}
 use Rattle.std.specs.declared.ops.ControlFlow.{ControlFlow}
 use Rattle.std.specs.declared.ops.ControlFlow.TheVariants.{Continue, Break}
 use Rattle.window.specs.declared.Window.{Window}
@@ -8,26 +8,16 @@ use Rattle.packing.specs.declared.packed.Progress.{Progress}
 use Rattle.packing.specs.declared.packed.PackError.{PackError}
 use Rattle.packing.specs.declared.packed.PackError.TheVariants.{BadLine, NotWritten}
 
--- how many bytes may still be packed: none from a line on that is no record
-abbrev pub ahead : ℕ → Progress → ℕ
-ahead end p = cond p.bad 0 (end - p.at)
-
--- the next line is no record
-abbrev pub stopped_at : Progress → Progress
-stopped_at p = record { at = p.at; used = p.used; number = p.number; bad = true }
-
 -- another line can be packed
 pub record Ready (end : ℕ) (p : Progress) : Type 0 where
-  pub good : p.bad ≡ false
   pub inside : p.at < end
   pub room : p.used + 4140 ≤ 65536
 
 -- a line more is packed; lines are counted from 1
 pub record Nearer (end : ℕ) (p r : Progress) : Type 0 where
   pub inside : r.at ≤ end
-  pub less : ahead end r < end - p.at
   pub text : r.used ≤ p.used + 4140
-  pub on : p.at ≤ r.at
+  pub on : p.at < r.at
   pub line : 1 ≤ p.number → 1 ≤ r.number
 
 -- a block is packed from a place on

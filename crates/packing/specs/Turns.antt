@@ -1,5 +1,5 @@
 -- What unpacking a file in blocks keeps from turn to turn.
-use Rattle.std.specs.Prelude.{◌≡◌, false, cond, ℕ, ◌+◌, ◌-◌, ◌≤◌, ◌<◌, Result}
+use Rattle.std.specs.Prelude.{ℕ, ◌+◌, ◌≤◌, ◌<◌, Result}
 use Rattle.std.specs.declared.ops.ControlFlow.{ControlFlow}
 use Rattle.std.specs.declared.ops.ControlFlow.TheVariants.{Continue, Break}
 use Rattle.window.specs.declared.Window.{Window}
@@ -7,22 +7,16 @@ use Rattle.window.specs.Window.{Within}
 use Rattle.packing.specs.declared.unpacked.Progress.{Progress}
 use Rattle.packing.specs.declared.unpacked.UnpackError.{UnpackError}
 
--- how many bytes may still be unpacked: none where no record stands
-abbrev pub ahead : ℕ → Progress → ℕ
-ahead end p = cond p.bad 0 (end - p.at)
-
 -- another record can be unpacked
 pub record Ready (end : ℕ) (p : Progress) : Type 0 where
-  pub good : p.bad ≡ false
   pub inside : p.at < end
   pub room : p.used + 8915 ≤ 65536
 
 -- a record more is unpacked
 pub record Nearer (end : ℕ) (p r : Progress) : Type 0 where
   pub inside : r.at ≤ end
-  pub less : ahead end r < end - p.at
   pub text : r.used ≤ p.used + 8915
-  pub on : p.at ≤ r.at
+  pub on : p.at < r.at
 
 -- a block is unpacked from a place on
 pub record Reaches (end from : ℕ) (r : Progress) : Type 0 where

@@ -1,7 +1,8 @@
 // Text as an event file: a record for each line that is not empty.
-ghost use Rattle.std.specs.Prelude.{◌+◌, ◌-◌, ◌≤◌, ◌<◌, ◌≡◌, true, length, IfErr};
+ghost use Rattle.std.specs.Prelude.{◌+◌, ◌-◌, ◌≤◌, ◌<◌, ◌≡◌, true, length, IfErr, MatchResult};
 ghost use Rattle.window.specs.Window.{Within};
-ghost use Rattle.packing.specs.PackTurns.{Counted, Nearer, Reaches, GoesOn, Ready, stopped_at};
+ghost use Rattle.packing.specs.declared.packed.PackError.TheVariants.{BadLine};
+ghost use Rattle.packing.specs.PackTurns.{Counted, Nearer, Reaches, GoesOn, Ready};
 
 use crate::complaints::say_too_long;
 use crate::one_line::pack_line;
@@ -20,14 +21,12 @@ pub enum PackError {
     NotWritten,
 }
 
-// How far a block is packed, and where its bytes end; the number of the next line. `bad`: that line is no record.
-// A flag and no Err: what was put before it stands, and is written.
+// How far a block is packed, and where its bytes end; the number of the next line.
 #[derive(Clone, Copy)]
 struct Progress {
     at: usize,
     used: usize,
     number: u64,
-    bad: bool,
 }
 
 // What a turn leaves: a window and a line number to go on with, or what became of the text.
@@ -38,19 +37,12 @@ fn is_next(p: Progress, end: usize, ended: bool) -> bool
     requires { p.at ≤ end }
     ensures { result ≡ true → Ready end p }
 {
-    !p.bad && p.used <= BLOCK - LONGEST && is_whole(end - p.at, ended, LONGEST_LINE)
+    p.used <= BLOCK - LONGEST && is_whole(end - p.at, ended, LONGEST_LINE)
 }
 
 // Whether a line may go on behind the bytes in hand.
 fn is_cut(end: usize, all: usize, ended: bool) -> bool {
     !ended && end == all
-}
-
-// The next line is no record.
-fn stopped(p: Progress) -> Progress
-    ensures { result ≡ stopped_at p }
-{
-    Progress { bad: true, ..p }
 }
 
 // Packs the next line.
@@ -60,63 +52,53 @@ fn pack_next<E: Write>(
     room: &mut [u8],
     p: Progress,
     ended: bool,
-) -> Progress
+) -> Result<Progress, PackError>
     requires { (p.at < length bytes.now) × (p.used + 4140 ≤ length room.old) }
-    ensures { Nearer (length bytes.now) p result }
+    ensures { MatchResult result (Nearer (length bytes.now) p) (λ error. error ≡ BadLine p.number) }
 {
-    let at = p.at;
-    let end = line_end(bytes, at);
+    let bad = PackError::BadLine(p.number);
+    let end = line_end(bytes, p.at);
     if is_cut(end, bytes.len(), ended) {
         say_too_long(errors, p.number);
-        return stopped(p);
+        return Err(bad);
     }
-    let packing = pack_line(errors, &bytes[at..end], p.number, room, p.used);
-    match packing {
-        None => stopped(p),
-        // The next line begins after the line feed, if there is one. The last line number is that of all lines after it.
-        Some(used) => Progress {
-            at: (end + 1).min(bytes.len()),
-            used,
-            number: p.number.saturating_add(1),
-            bad: false,
-        },
-    }
+    let used = pack_line(errors, &bytes[p.at..end], p.number, room, p.used).ok_or(bad)?;
+    // The next line begins after the line feed, if there is one. The last line number is that of all lines after it.
+    Ok(Progress {
+        at: (end + 1).min(bytes.len()),
+        used,
+        number: p.number.saturating_add(1),
+    })
 }
 
-// Packs line after line, until one is bad, the room is nearly full or a line might be cut.
+// Packs line after line, until one is no record, the room is nearly full or a line might be cut.
 fn pack_block<E: Write>(
     errors: &mut E,
     bytes: &[u8],
     room: &mut [u8],
-    from: usize,
-    number: u64,
+    p: &mut Progress,
     ended: bool,
-) -> Progress
-    requires { (from ≤ length bytes.now) × ((65536 ≤ length room.old) × (1 ≤ number)) }
-    ensures { Reaches (length bytes.now) from result }
+) -> Result<(), PackError>
+    requires { Reaches (length bytes.now) p.old.at p.old × (65536 ≤ length room.old) }
+    ensures { Reaches (length bytes.now) p.old.at p.new × IfErr result Counted }
 {
-    let mut p = Progress {
-        at: from,
-        used: 0,
-        number,
-        bad: false,
-    };
     // No index: how far a line reaches is known once it is read.
-    while is_next(p, bytes.len(), ended) {
-        p = pack_next(errors, bytes, &mut *room, p, ended);
+    while is_next(*p, bytes.len(), ended) {
+        *p = pack_next(errors, bytes, &mut *room, *p, ended)?;
     }
-    p
+    Ok(())
 }
 
 // Whether the text is done: a line is no record, or all of it is packed.
-fn turned(p: Progress, w: Window) -> Turn
+fn turned(packed: Result<(), PackError>, p: Progress, w: Window) -> Turn
+    requires counted { IfErr packed Counted }
     requires from_le_at { (w.from ≤ p.at) × ((p.at ≤ w.to) × (1 ≤ p.number)) }
     requires place_bound { w.place + 65536 ≤ 18446744073709551615 }
     requires to_bound { w.to ≤ 65536 }
     ensures { GoesOn w.to w.place result }
 {
-    if p.bad {
-        return ControlFlow::Break(Err(PackError::BadLine(p.number)));
+    if packed.is_err() {
+        return ControlFlow::Break(packed);
     }
     match left_of(w, p.at) {
         None => ControlFlow::Break(Ok(())),
@@ -140,12 +122,16 @@ fn take_turn<R: Read, W: Write, E: Write>(
 {
     let w = refill(input, &mut *block, before, LONGEST_LINE);
     let to = w.to;
-    let p = pack_block(errors, &block[..to], &mut *room, w.from, number, w.ended);
-    let used = p.used;
-    if output.write_all(&room[..used]).is_err() {
+    let mut p = Progress {
+        at: w.from,
+        used: 0,
+        number,
+    };
+    let packed = pack_block(errors, &block[..to], &mut *room, &mut p, w.ended);
+    if output.write_all(&room[..p.used]).is_err() {
         return ControlFlow::Break(Err(PackError::NotWritten));
     }
-    turned(p, w)
+    turned(packed, p, w)
 }
 
 // Takes turns until the text is done.

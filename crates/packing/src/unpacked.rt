@@ -1,5 +1,5 @@
 // An event file as text: a line for each record.
-ghost use Rattle.std.specs.Prelude.{◌+◌, ◌-◌, ◌≤◌, ◌<◌, ◌≡◌, true, length};
+ghost use Rattle.std.specs.Prelude.{◌+◌, ◌-◌, ◌≤◌, ◌<◌, ◌≡◌, true, length, IfOk};
 ghost use Rattle.decoding.specs.Place.{stored_from};
 ghost use Rattle.fields.specs.Fields.{shaped};
 ghost use Rattle.records.specs.Records.{entry};
@@ -27,14 +27,16 @@ pub enum UnpackError {
     NotWritten,
 }
 
-// How far a block is unpacked, and where its text ends. `bad`: no record stands there.
-// A flag and no Err: what was put before it stands, and is written.
+// How far a block is unpacked, and where its text ends.
 #[derive(Clone, Copy)]
 struct Progress {
     at: usize,
     used: usize,
-    bad: bool,
 }
+
+// No record stands where the next one was to begin.
+#[derive(Clone, Copy)]
+struct NoRecord;
 
 // What a turn leaves: a window to go on with, or what became of the file.
 type Turn = ControlFlow<Result<(), UnpackError>, Window>;
@@ -66,50 +68,43 @@ fn is_next(p: Progress, end: usize, ended: bool) -> bool
     requires { p.at ≤ end }
     ensures { result ≡ true → Ready end p }
 {
-    !p.bad && p.used <= BLOCK - LONGEST_LINE && is_whole(end - p.at, ended, LONGEST)
+    p.used <= BLOCK - LONGEST_LINE && is_whole(end - p.at, ended, LONGEST)
 }
 
 // Unpacks the next record.
-fn unpack_next(bytes: &[u8], room: &mut [u8], p: Progress) -> Progress
+fn unpack_next(bytes: &[u8], room: &mut [u8], p: Progress) -> Result<Progress, NoRecord>
     requires { (p.at < length bytes.now) × (p.used + 8915 ≤ length room.old) }
-    ensures { Nearer (length bytes.now) p result }
+    ensures { IfOk result (Nearer (length bytes.now) p) }
 {
-    let unpacking = put_line(bytes, p.at, room, p.used);
-    match unpacking {
-        None => Progress { bad: true, ..p },
-        Some((next, used)) => Progress {
-            at: next,
-            used,
-            bad: false,
-        },
-    }
+    let (at, used) = put_line(bytes, p.at, room, p.used).ok_or(NoRecord)?;
+    Ok(Progress { at, used })
 }
 
 // Unpacks record after record, until none stands there, the room is nearly full or a record might be cut.
-fn unpack_block(bytes: &[u8], room: &mut [u8], from: usize, ended: bool) -> Progress
-    requires { (from ≤ length bytes.now) × (65536 ≤ length room.old) }
-    ensures { Reaches (length bytes.now) from result }
+fn unpack_block(
+    bytes: &[u8],
+    room: &mut [u8],
+    p: &mut Progress,
+    ended: bool,
+) -> Result<(), NoRecord>
+    requires { Reaches (length bytes.now) p.old.at p.old × (65536 ≤ length room.old) }
+    ensures { Reaches (length bytes.now) p.old.at p.new }
 {
-    let mut p = Progress {
-        at: from,
-        used: 0,
-        bad: false,
-    };
     // No index: each record says where the next one begins.
-    while is_next(p, bytes.len(), ended) {
-        p = unpack_next(bytes, &mut *room, p);
+    while is_next(*p, bytes.len(), ended) {
+        *p = unpack_next(bytes, &mut *room, *p)?;
     }
-    p
+    Ok(())
 }
 
 // Whether the file is done: no record stands there, or all of it is unpacked.
-fn turned(p: Progress, w: Window) -> Turn
+fn turned(unpacked: Result<(), NoRecord>, p: Progress, w: Window) -> Turn
     requires from_le_at { (w.from ≤ p.at) × (p.at ≤ w.to) }
     requires place_bound { w.place + 65536 ≤ 18446744073709551615 }
     requires to_bound { w.to ≤ 65536 }
     ensures { GoesOn w.to w.place result }
 {
-    if p.bad {
+    if unpacked.is_err() {
         let place = w.place + (p.at - w.from) as u64;
         return ControlFlow::Break(Err(UnpackError::Damaged(place)));
     }
@@ -133,12 +128,15 @@ fn take_turn<R: Read, W: Write>(
 {
     let w = refill(input, &mut *block, before, LONGEST);
     let to = w.to;
-    let p = unpack_block(&block[..to], &mut *room, w.from, w.ended);
-    let used = p.used;
-    if output.write_all(&room[..used]).is_err() {
+    let mut p = Progress {
+        at: w.from,
+        used: 0,
+    };
+    let unpacked = unpack_block(&block[..to], &mut *room, &mut p, w.ended);
+    if output.write_all(&room[..p.used]).is_err() {
         return ControlFlow::Break(Err(UnpackError::NotWritten));
     }
-    turned(p, w)
+    turned(unpacked, p, w)
 }
 
 // Takes turns until the file is done.

@@ -8,20 +8,14 @@ use crate::dates::date_of;
 use crate::page::Page;
 use crate::pieces::Piece;
 use crate::rows::Rows;
-use particulars::{Parts, Standing};
+use particulars::Parts;
 use reports::Bill;
 
-// What is explained: the day, how the contracts stood before the close and what it found, what was due before it, and what it left the
-// account with. The arrays are those in which `desk` and `particulars` answer, a place for each listed contract.
+// What is explained: the day, the listed contracts by rising code, what was due before the close, and what it left the account with.
 #[derive(Clone, Copy)]
 pub struct Close {
     pub day: u64,
-    pub before: Standing,
-    pub rates: [i64; 6],
-    pub rules: [u64; 6],
-    pub used: [u64; 6],
-    pub carried: [i64; 6],
-    pub sums: [i64; 6],
+    pub contracts: [Contract; 6],
     pub unpaid: i64,
     pub bill: Bill,
     pub parts: Parts,
@@ -53,35 +47,15 @@ fn put_title(page: &mut Page<'_>, account: u64, day: u64) {
     page.put(b")\n\n");
 }
 
-impl Close {
-    // The contract of a row.
-    fn contract(&self, k: usize) -> Contract
-        requires { k ≤ 5 }
-    {
-        let before = self.before;
-        Contract {
-            code: before.codes[k],
-            rate: self.rates[k],
-            rule: self.rules[k],
-            used: self.used[k],
-            previous: before.previous[k],
-            net: before.nets[k],
-            carried: self.carried[k],
-            sum: self.sums[k],
-        }
-    }
-}
-
 // Whether a code is shown: every one, or the one that is asked for.
 pub fn is_shown(q: Question, code: u64) -> bool {
     q.code.is_none_or(|asked| code == asked)
 }
 
 // Puts the contracts that are shown.
-fn put_contracts(page: &mut Page<'_>, rows: Rows<'_>, x: Close, q: Question) {
-    for k in 0..6 {
-        let contract = x.contract(k);
-        if is_shown(q, contract.code) {
+fn put_contracts(page: &mut Page<'_>, rows: Rows<'_>, contracts: [Contract; 6], q: Question) {
+    for contract in contracts {
+        if is_shown(q, contract.stood.code) {
             put_contract(page, rows, contract);
         }
     }
@@ -128,7 +102,7 @@ pub fn put_close(
         used: 0,
     };
     put_title(&mut page, q.account, x.day);
-    put_contracts(&mut page, rows, x, q);
+    put_contracts(&mut page, rows, x.contracts, q);
     put_money(&mut page, x.unpaid, x.bill, x.parts);
     put_call(&mut page, x.bill.free, x.parts.cash, x.parts.flag);
     put_notes(&mut page, notes, n);

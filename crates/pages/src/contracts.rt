@@ -2,18 +2,16 @@
 use crate::page::Page;
 use crate::pieces::Piece;
 use crate::rows::Rows;
+use particulars::Stood;
+use rates::{Rule, Settled, number_of};
 use trail::Row;
 use whole::size;
 
-// One contract at a close.
+// One contract at a close: how it stood before it and how it was settled, what was carried over, and the sum of all lines.
 #[derive(Clone, Copy)]
-pub(crate) struct Contract {
-    pub code: u64,
-    pub rate: i64,
-    pub rule: u64,
-    pub used: u64,
-    pub previous: i64,
-    pub net: i64,
+pub struct Contract {
+    pub stood: Stood,
+    pub settled: Settled,
     pub carried: i64,
     pub sum: i64,
 }
@@ -40,44 +38,44 @@ fn put_counted(page: &mut Page<'_>, before: &[u8], used: u64, after: &[u8]) {
     page.put(after);
 }
 
-// Puts a rule of document 01, 'Settlement rate', in words. The page prints the rule's number too, so it stays a number.
-fn put_rule(page: &mut Page<'_>, rule: u64, used: u64) {
+// Puts a rule of document 01, 'Settlement rate', in words.
+fn put_rule(page: &mut Page<'_>, rule: Rule, used: u64) {
     match rule {
-        1 => put_counted(
+        Rule::LastHour => put_counted(
             page,
             b"the lot-weighted mean of the last hour's ",
             used,
             b" trades\n",
         ),
-        2 => put_counted(
+        Rule::LastFive => put_counted(
             page,
             b"the lot-weighted mean of the day's last ",
             used,
             b" trades\n",
         ),
-        3 => put_counted(
+        Rule::Quotes => put_counted(
             page,
             b"half of the sum of the mean bid and the mean offer of the last hour's ",
             used,
             b" quotes\n",
         ),
-        4 => page.put(b"the previous settlement rate\n"),
-        _ => page.put(b"the final rate of the last trading day\n"),
+        Rule::Previous => page.put(b"the previous settlement rate\n"),
+        Rule::Final => page.put(b"the final rate of the last trading day\n"),
     }
 }
 
 // Puts the contract's rates and the rule that gave the new one.
-fn put_rates(page: &mut Page<'_>, x: Contract) {
+fn put_rates(page: &mut Page<'_>, stood: Stood, settled: Settled) {
     page.put(b"contract ");
-    page.put_piece(Piece::number(x.code));
+    page.put_piece(Piece::number(stood.code));
     page.put(b": rate ");
-    page.put_piece(Piece::rate(x.rate));
+    page.put_piece(Piece::rate(settled.rate));
     page.put(b", previous ");
-    page.put_piece(Piece::rate(x.previous));
+    page.put_piece(Piece::rate(stood.previous));
     page.put(b", rule ");
-    page.put_piece(Piece::number(x.rule));
+    page.put_piece(Piece::number(number_of(settled.rule)));
     page.put(b": ");
-    put_rule(page, x.rule, x.used);
+    put_rule(page, settled.rule, settled.used);
 }
 
 // Puts the head of the table.
@@ -115,8 +113,8 @@ fn put_trade(page: &mut Page<'_>, row: Row) {
 fn put_carried(page: &mut Page<'_>, x: Contract) {
     let start = page.used;
     page.put(b"  carried over");
-    page.put_right(start, LOTS, Piece::signed(x.net));
-    page.put_right(start, TRADED, Piece::rate(x.previous));
+    page.put_right(start, LOTS, Piece::signed(x.stood.net));
+    page.put_right(start, TRADED, Piece::rate(x.stood.previous));
     page.put_right(start, AMOUNT, Piece::signed(x.carried));
     page.put(b"\n");
 }
@@ -141,13 +139,13 @@ fn put_trades(page: &mut Page<'_>, rows: Rows<'_>, code: u64) {
 
 // Puts all of a contract. The account may have nothing to do with it: no trade of the day in it, and nothing carried over.
 pub(crate) fn put_contract(page: &mut Page<'_>, rows: Rows<'_>, x: Contract) {
-    put_rates(page, x);
-    if x.net == 0 && !rows.has(x.code) {
+    put_rates(page, x.stood, x.settled);
+    if x.stood.net == 0 && !rows.has(x.stood.code) {
         page.put(b"  nothing traded, nothing carried over\n");
         return;
     }
     put_head(page);
-    put_trades(page, rows, x.code);
+    put_trades(page, rows, x.stood.code);
     put_carried(page, x);
     put_sum(page, x);
 }

@@ -14,6 +14,7 @@ mod rows;
 
 pub use answers::{put_damaged, put_no_account, put_no_close, put_no_contract};
 pub use close_page::{Close, LISTED, Notes, is_shown, put_close};
+pub use contracts::Contract;
 pub use refused::put_refused;
 
 // What is asked: an account, the day of a close or, without one, the last, and one contract or, without a code, all.

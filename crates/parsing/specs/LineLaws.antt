@@ -15,8 +15,10 @@ use Rattle.fields.specs.Fields.{count, announced, is_zero}
 use Rattle.fields.specs.FieldLaws.{is_known, counts-most, shape-tells}
 use Rattle.wording.specs.Words.{word_of}
 use Rattle.wording.specs.Text.{field_text, fields_text, exception_text, record_text}
-use Rattle.parsing.specs.Parsing.{Small, Sayable, NoRecord, OfRecord}
-use Rattle.parsing.specs.Places.{Ends, run, Passed, Lacks, Tailed, NoTail}
+use Rattle.parsing.specs.declared.line.LineError.{LineError}
+use Rattle.parsing.specs.declared.line.LineError.TheVariants.{NoKind, NoField, NoException, TooLong}
+use Rattle.parsing.specs.Parsing.{Small, Sayable, NoRecord, OfRecord, Names, Begun, first_word}
+use Rattle.parsing.specs.Places.{Ends, run, Passed, Lacks, Tailed, NoTail, Behind}
 use Rattle.parsing.specs.PlaceLaws.{goes_on, word_end, run_ends}
 use Rattle.parsing.specs.WordLaws.{fields-spaced, exceptions-spaced, word-seen, kind-only}
 
@@ -74,9 +76,6 @@ module _ (line : List ℕ) (at n : ℕ) where
   exceptions-at : (es : List ℕ) → drop at line ≡ block exception_text es → drop at line ≡ run (λ _. exception_text) 0 es ++ []
   exceptions-at es e = e ∙ run-exceptions 0 es ∙ sym (append-nil (run (λ _. exception_text) 0 es))
 
-  pub tail-too-many : 400 < n → NoTail line at n
-  tail-too-many h es long few small e = omega arith
-
   pub tail-lacks : Lacks (λ _. exception_text) n line at → NoTail line at n
   tail-lacks lacks es long few small e = lacks es [] long small nothing_ends (exceptions-at es e)
 
@@ -96,6 +95,14 @@ module _ (line : List ℕ) (at n : ℕ) where
     pub tail-only : length ns ≡ n → (es : List ℕ) → length es ≡ n → Small es → drop at line ≡ block exception_text es → es ≡ ns
     tail-only all es long small e =
         sym (take_all (length ns) es (omega arith)) ∙ (p.only es [] long small nothing_ends (exceptions-at es e)).0
+
+-- what is refused behind the fields names their kind
+pub behind-names : (line : List ℕ) (kind many : ℕ) (error : LineError) → kind < 13 → first_word line ≡ word_of kind
+    → Behind kind many error → Names error × Begun line error
+behind-names line kind many NoKind below word b = absurd b
+behind-names line kind many (NoField k field) below word b = absurd b
+behind-names line kind many (NoException k n read) below word b = rw (b.0, b.1) ((below, b.2), word)
+behind-names line kind many (TooLong k) below word b = rw b (below, word)
 
 -- ---- the whole line
 module _ (line : List ℕ) (end : ℕ) (last : end ≡ byte_end 32 line 0) where

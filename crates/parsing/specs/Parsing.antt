@@ -1,8 +1,9 @@
 -- What a line says (docs/GUIDE.md, 'A day as text'): the record whose text it is, or that it is no record's text.
 use Rattle.std.specs.Prelude.{◌≡◌, true, List, ℕ, ◌≤◌, ◌<◌, length, take, Result, Ok, Err}
 use Rattle.lists.specs.All.{All}
-use Rattle.scan.specs.Text.{most}
+use Rattle.scan.specs.Text.{most, byte_end}
 use Rattle.fields.specs.Fields.{count, announced, shaped}
+use Rattle.wording.specs.Words.{word_of}
 use Rattle.wording.specs.Text.{record_text}
 use Rattle.parsing.specs.declared.line.Reading.{Reading}
 use Rattle.parsing.specs.declared.line.LineError.{LineError}
@@ -37,6 +38,17 @@ Names (NoField kind field) = field < count kind
 Names (NoException kind many read) = (kind < 13) × (read < many)
 Names (TooLong kind) = kind < 13
 
+-- a line's first word, up to a space
+abbrev pub first_word : List ℕ → List ℕ
+first_word line = take (byte_end 32 line 0) line
+
+-- it is that of the kind named, and no kind's where none is
+abbrev pub Begun : List ℕ → LineError → Type 0
+Begun line NoKind = (kind : ℕ) → kind < 13 → first_word line ≡ word_of kind → ⊥
+Begun line (NoField kind field) = first_word line ≡ word_of kind
+Begun line (NoException kind many read) = first_word line ≡ word_of kind
+Begun line (TooLong kind) = first_word line ≡ word_of kind
+
 abbrev pub Says : List ℕ → Result Reading LineError → List ℕ → Type 0
 Says line (Ok read) list = OfRecord line read.kind read.fields list
-Says line (Err error) list = Names error × NoRecord line
+Says line (Err error) list = Names error × Begun line error × NoRecord line

@@ -8,7 +8,8 @@ use Rattle.wording.specs.Text.{exception_text}
 use Rattle.wording.specs.Words.{word_of}
 use Rattle.parsing.specs.declared.line.Fields.{Fields}
 use Rattle.parsing.specs.declared.line.LineError.{LineError}
-use Rattle.parsing.specs.Parsing.{Small, Names}
+use Rattle.parsing.specs.declared.line.LineError.TheVariants.{NoKind, NoField, NoException, TooLong}
+use Rattle.parsing.specs.Parsing.{Small}
 
 -- an answer that says whether something holds
 abbrev pub Whether : Type 0 → Bool → Type 0
@@ -79,6 +80,13 @@ abbrev pub NoTail : List ℕ → ℕ → ℕ → Type 0
 NoTail line at announced =
     (es : List ℕ) → length es ≡ announced → announced ≤ 400 → Small es → drop at line ≡ block exception_text es → ⊥
 
-abbrev pub Tail : List ℕ → ℕ → ℕ → List ℕ → Result Unit LineError → Type 0
-Tail line at announced list (Ok done) = Tailed line at announced list
-Tail line at announced list (Err error) = Names error × NoTail line at announced
+-- what is refused there is an exception of so many, or what follows them
+abbrev pub Behind : ℕ → ℕ → LineError → Type 0
+Behind kind announced NoKind = ⊥
+Behind kind announced (NoField k field) = ⊥
+Behind kind announced (NoException k many read) = (k ≡ kind) × (many ≡ announced) × (read < announced)
+Behind kind announced (TooLong k) = k ≡ kind
+
+abbrev pub Tail : List ℕ → ℕ → ℕ → ℕ → List ℕ → Result Unit LineError → Type 0
+Tail line at kind announced list (Ok done) = Tailed line at announced list
+Tail line at kind announced list (Err error) = Behind kind announced error × NoTail line at announced

@@ -83,23 +83,18 @@ fn after_fields(
     kind: u64,
     announced: u64,
 ) -> Result<(), LineError>
-    requires { (at ≤ length line.now) × (length list.old ≡ 400) × (kind < 13) }
-    ensures { (Tail line.now at announced list.new result) × (length list.new ≡ 400) }
+    requires { (at ≤ length line.now) × (length list.old ≡ 400) }
+    ensures { (Tail line.now at kind announced list.new result) × (length list.new ≡ 400) }
 {
+    let lacking = |read| LineError::NoException {
+        kind,
+        announced,
+        read,
+    };
     if EXCEPTIONS < announced {
-        return Err(LineError::NoException {
-            kind,
-            announced,
-            read: 0,
-        });
+        return Err(lacking(0));
     }
-    let last = exceptions_in(line, at, list, announced as usize).map_err(
-        |read| LineError::NoException {
-            kind,
-            announced,
-            read,
-        },
-    )?;
+    let last = exceptions_in(line, at, list, announced as usize).map_err(lacking)?;
     if last < line.len() {
         return Err(LineError::TooLong { kind });
     }

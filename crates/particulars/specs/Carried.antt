@@ -1,12 +1,16 @@
--- What is read of a contract's cells and of what an account holds.
-use Rattle.std.specs.Prelude.{List, ℕ, ℤ, pos, get_or}
+-- What is read of a contract's row and of a position in it.
+use Rattle.std.specs.Prelude.{List, ℕ, ℤ, get_or}
+use Rattle.lists.specs.Tabulate.{tab}
 use Rattle.positions.specs.Deals.{flat}
-use Rattle.holdings.specs.declared.Holdings.{Holdings}
-use Rattle.memory.specs.Layout.{contract_money_at}
+use Rattle.positions.specs.declared.Position.{Position}
+use Rattle.memory.specs.declared.contract_rows.Contract.{Contract}
+use Rattle.memory.specs.Layout.{contract_at}
+use Rattle.particulars.specs.declared.Stood.{Stood}
 
--- the previous settlement rate of row k, and the net before today of what is held in it
-abbrev pub previous_at : List ℤ → ℕ → ℤ
-previous_at m k = get_or m (contract_money_at k) (pos 0)
+-- the code, the previous settlement rate and the net before today
+abbrev pub stood_at : Contract → Position → Stood
+stood_at row p = record { code = row.code; previous = row.previous; net = p.before }
 
-abbrev pub before_in : Holdings → ℕ → ℤ
-before_in h k = (get_or h.positions k flat).before
+-- of the six rows, with six positions
+abbrev pub stood : List ℕ → List ℤ → List Position → List Stood
+stood c m positions = tab (λ k. stood_at (contract_at c m k) (get_or positions k flat)) 6

@@ -7,7 +7,7 @@ use Rattle.closing.specs.DayEnd.{over_limit}
 use Rattle.model.specs.Book.{Book, is_member, is_listed}
 use Rattle.model.specs.Calls.{Trade}
 use Rattle.model.specs.Refusals.{is_open, side_totals}
-use Rattle.particulars.specs.declared.Standing.{Standing}
+use Rattle.particulars.specs.declared.Stood.{Stood}
 use Rattle.particulars.specs.declared.Parts.{Parts}
 use Rattle.holdings.specs.declared.Totals.{Totals}
 
@@ -18,8 +18,15 @@ previous_rates b = padded 6 (pos 0) (map (λ c. (b.contracts.terms c).previous) 
 abbrev pub nets_before : Book → ℕ → List ℤ
 nets_before b n = padded 6 (pos 0) (map (λ c. (b.accounts.position n c).before) b.contracts.codes)
 
-abbrev pub standing_of : Book → ℕ → Standing
-standing_of b n = record { codes = padded 6 0 b.contracts.codes; previous = previous_rates b; nets = nets_before b n }
+-- the three of one contract; a row that no contract has; and the six rows
+abbrev pub stood_of : Book → ℕ → ℕ → Stood
+stood_of b n c = record { code = c; previous = (b.contracts.terms c).previous; net = (b.accounts.position n c).before }
+
+abbrev pub no_stood : Stood
+no_stood = record { code = 0; previous = pos 0; net = pos 0 }
+
+abbrev pub standing_of : Book → ℕ → List Stood
+standing_of b n = padded 6 no_stood (map (stood_of b n) b.contracts.codes)
 
 -- "requirement = clearing limit x reference rate + over-limit + special margin", and what the account has
 abbrev pub parts_of : Book → ℕ → Parts

@@ -13,19 +13,19 @@ ghost use Rattle.standing.specs.Standing.{view};
 ghost use Rattle.standing.specs.Made.{Sound};
 ghost use Rattle.particulars.specs.Particulars.{standing_of, parted_in, IsSide, asked_in};
 
-use carried::{codes, nets_before, previous_rates};
+use carried::{positions_of, stood};
 use dealing::Deal;
 use holdings::Totals;
 use memory::{COUNTS, MONEY};
 use proposed::asked;
 use required::parted;
 
-// The listed contracts by rising code: each one's code, previous settlement rate, and the account's net before today.
+// A listed contract before a close: its code, its previous settlement rate, and the account's net before today.
 #[derive(Clone, Copy)]
-pub struct Standing {
-    pub codes: [u64; 6],
-    pub previous: [i64; 6],
-    pub nets: [i64; 6],
+pub struct Stood {
+    pub code: u64,
+    pub previous: i64,
+    pub net: i64,
 }
 
 // The parts of an account's requirement as the last close found them, and what it has.
@@ -43,19 +43,13 @@ pub struct Parts {
     pub flag: bool,
 }
 
-// How the listed contracts stand before a close, and what the account of a number carried into the day.
-pub fn standing_of(counts: &[u64; COUNTS], money: &[i64; MONEY], number: u64) -> Standing
+// How the listed contracts stand before a close, by rising code, and what the account of a number carried into the day.
+pub fn standing_of(counts: &[u64; COUNTS], money: &[i64; MONEY], number: u64) -> [Stood; 6]
     requires { Sound counts.now money.now }
     ensures { result ≡ standing_of (view counts.now money.now) number }
 {
-    let listed = codes(counts);
-    let previous = previous_rates(money);
-    let nets = nets_before(counts, money, number);
-    Standing {
-        codes: listed,
-        previous,
-        nets,
-    }
+    let positions = positions_of(counts, money, number);
+    stood(counts, money, positions)
 }
 
 // The parts of the requirement of the account of a number.

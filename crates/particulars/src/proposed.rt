@@ -49,11 +49,7 @@ pub(crate) fn asked(counts: &[u64], money: &[i64], t: Deal, number: u64) -> Opti
     if !is_open(h.point) {
         return None;
     }
-    let Some(k) = find_contract(counts, t.code) else {
-        return None;
-    };
-    let Some(i) = find_account(counts, number) else {
-        return None;
-    };
+    let k = find_contract(counts, t.code)?;
+    let i = find_account(counts, number)?;
     Some(side_totals(counts, money, t, number, k, i))
 }

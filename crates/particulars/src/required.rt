@@ -41,9 +41,7 @@ pub(crate) fn parted(counts: &[u64], money: &[i64], number: u64) -> Option<Parts
     requires { Sound counts.now money.now }
     ensures { result ≡ parted_in (view counts.now money.now) number }
 {
-    let Some(i) = find_account(counts, number) else {
-        return None;
-    };
+    let i = find_account(counts, number)?;
     let a = load_account(counts, money, i);
     let h = load_header(counts);
     Some(parts_in(a, h.reference, h.multiplier))

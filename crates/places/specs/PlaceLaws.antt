@@ -1,7 +1,8 @@
 -- A call that names one account: its refusals 3 and 5, and what is known of the row that is found.
 use Rattle.std.specs.Prelude.{◌≡◌, refl, Bool, true, false, cond, List, ◌∷◌, ℕ, ◌<◌, ℤ, length, get_or, Result, Ok, Err, Option, Some, None}
 use Rattle.std.proofs.Common.{sym, ap, ◌∙◌, subst, arith}
-use Rattle.lists.specs.Seek.{seek, on_found}
+use Rattle.std.specs.Option.{ok_or}
+use Rattle.lists.specs.Seek.{seek}
 use Rattle.memory.specs.declared.header_row.Header.{Header}
 use Rattle.memory.specs.Layout.{header_at, number_at, account_at}
 use Rattle.model.specs.Book.{Book, is_member}
@@ -50,7 +51,7 @@ module _ {c : List ℕ} {m : List ℤ} (s : Sound c m) (n : ℕ) (call : Call) (
   pub refused-place : {refusal : Refusal} → p ≡ Err refusal → Made c m call (number_of refusal) c m
   refused-place {refusal} q = go t refl found refl (sym finds ∙ q)
     where
-      go : (u : Bool) → t ≡ u → (f : Option ℕ) → found ≡ f → cond u (on_found f (Err UnknownAccount) Ok) (Err NotNow) ≡ Err refusal
+      go : (u : Bool) → t ≡ u → (f : Option ℕ) → found ≡ f → cond u (ok_or f UnknownAccount) (Err NotNow) ≡ Err refusal
           → Made c m call (number_of refusal) c m
       go false d f k r =
           let z : NotNow ≡ refusal = cc in
@@ -64,7 +65,7 @@ module _ {c : List ℕ} {m : List ℤ} (s : Sound c m) (n : ℕ) (call : Call) (
   pub named : {i : ℕ} → p ≡ Ok i → Named book c m call rest n i
   named {i} q = go t refl found refl (sym finds ∙ q)
     where
-      go : (u : Bool) → t ≡ u → (f : Option ℕ) → found ≡ f → cond u (on_found f (Err UnknownAccount) Ok) (Err NotNow) ≡ Ok i
+      go : (u : Bool) → t ≡ u → (f : Option ℕ) → found ≡ f → cond u (ok_or f UnknownAccount) (Err NotNow) ≡ Ok i
           → Named book c m call rest n i
       go false d f k r = let z : ◌≡◌ {A = ℕ} 0 1 = cc in absurd (omega arith)
       go true d None k r = let z : ◌≡◌ {A = ℕ} 0 1 = cc in absurd (omega arith)

@@ -16,8 +16,5 @@ pub fn place_of(counts: &[u64], allowed: bool, number: u64) -> Result<usize, Ref
     if !allowed {
         return Err(Refusal::NotNow);
     }
-    let Some(i) = find_account(counts, number) else {
-        return Err(Refusal::UnknownAccount);
-    };
-    Ok(i)
+    find_account(counts, number).ok_or(Refusal::UnknownAccount)
 }

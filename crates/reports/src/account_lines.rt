@@ -25,9 +25,7 @@ pub(crate) fn billed(counts: &[u64], money: &[i64], number: u64) -> Option<Bill>
     requires { Sound counts.now money.now }
     ensures { result ≡ billed_in (view counts.now money.now) number }
 {
-    let Some(i) = find_account(counts, number) else {
-        return None;
-    };
+    let i = find_account(counts, number)?;
     let a = load_account(counts, money, i);
     Some(bill_in(a))
 }

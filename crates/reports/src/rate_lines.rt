@@ -37,9 +37,7 @@ pub(crate) fn rated(counts: &[u64], money: &[i64], code: u64) -> Option<Settled>
     requires { Sound counts.now money.now }
     ensures { result ≡ rated_in (view counts.now money.now) code }
 {
-    let Some(k) = find_outcome(counts, code) else {
-        return None;
-    };
+    let k = find_outcome(counts, code)?;
     let x = load_outcome(counts, money, k);
     Some(settled_in(x))
 }

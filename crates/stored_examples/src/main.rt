@@ -108,10 +108,7 @@ fn is_given<R: Env>(rt: &R, i: usize) -> bool {
 fn number_at<R: Env>(rt: &R, i: usize) -> Option<u64> {
     let mut text = [0u8; 4096];
     let length = rt.arg(i, &mut text).unwrap_or(0);
-    match number_in(&text[..length]) {
-        Some(number) => Some(number),
-        None => None,
-    }
+    number_in(&text[..length])
 }
 
 // Tries the example that an argument names, with the account, the day and the code after it. A day and a code count where they are numbers.

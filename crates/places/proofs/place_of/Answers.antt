@@ -6,14 +6,8 @@ use Rattle.places.proofs.place_of.Goals as goal
 pub returns-then-not-allowed : goal.returns-then-not-allowed
 returns-then-not-allowed c = rw (not-true c.args.allowed c.if-not-allowed.true-raw)
 
-pub returns-in_default : goal.returns-in_default
-returns-in_default c =
-    let allowed : c.args.allowed ≡ true =
-    not-false c.args.allowed c.if-not-allowed.false-raw in
-    rw (allowed, sym c.find_account.ensures ∙ c.in_default.is)
-
 pub returns : goal.returns
 returns c =
     let allowed : c.args.allowed ≡ true =
     not-false c.args.allowed c.if-not-allowed.false-raw in
-    rw (allowed, sym c.find_account.ensures ∙ c.in-Some.is)
+    rw allowed (rw c.find_account.ensures at c.ok_or.ensures.value)

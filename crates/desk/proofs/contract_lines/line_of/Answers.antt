@@ -5,7 +5,6 @@ use lib.IntN.{ℤ, pos, ◌+ℤ◌}
 use Rattle.lists.specs.HasLaws.{when_true}
 use Rattle.whole.specs.Within.{Within, within-*, within--, lit}
 use Rattle.whole.specs.Machine.{Got, got, add, arg, fits, kept, pass}
-use Rattle.rates.specs.Rules.{number_of}
 use Rattle.rates.specs.declared.Settled.{Settled}
 use Rattle.model.specs.Book.{Book}
 use Rattle.model.specs.Promises.{worth_at}
@@ -22,9 +21,9 @@ after s = view s.args.counts.now s.args.money.now
 
 -- a contract that was settled has what the close found
 shown : (c : In-Some) →
-    c.in-Some.settled ≡ (after (goal.at.In-Some c).Start).results.settled c.args.code
+    c.in-Some.settled ≡ (after (goal.at.In-Some c).Start).results.settled c.args.stood.code
 shown c =
-    let e : Some c.in-Some.settled ≡ Some ((after (goal.at.In-Some c).Start).results.settled c.args.code) =
+    let e : Some c.in-Some.settled ≡ Some ((after (goal.at.In-Some c).Start).results.settled c.args.stood.code) =
     sym c.in-Some.is ∙ c.rate_of.ensures ∙ when_true _ _ c.requires.sound.1 in
     cc
 
@@ -40,7 +39,7 @@ module _ (c : After-worth-carried) where
   abbrev start : Start
   start = (goal.at.After-worth-carried c).Start
 
-  carried-is : c.worth-carried.result ≡ worth_at (rate_in (after start) start.args.code) (record { lots = start.args.net; rate = start.args.previous })
+  carried-is : c.worth-carried.result ≡ worth_at (rate_in (after start) start.args.stood.code) (record { lots = start.args.stood.net; rate = start.args.stood.previous })
   carried-is =
       c.worth-carried.ensures
       ∙ worth-parts (arg start.requires.within.0 tt).eq (arg start.requires.within.1.0 tt).eq
@@ -57,10 +56,10 @@ module _ (c : After-amounts-1) where
   worth = (goal.at.After-amounts-1 c).After-worth-carried
 
   priced : let a = (start worth).args in
-      Priced a.labels.now a.amounts.now a.used a.code (rate_in (after (start worth)) a.code) c.price-made.result c.price-made.new.money
+      Priced a.labels.now a.amounts.now a.used a.stood.code (rate_in (after (start worth)) a.stood.code) c.price-made.result c.price-made.new.money
   priced =
       let a = (start worth).args in
-      subst (λ (z : ℤ). Priced a.labels.now a.amounts.now a.used a.code z c.price-made.result c.price-made.new.money)
+      subst (λ (z : ℤ). Priced a.labels.now a.amounts.now a.used a.stood.code z c.price-made.result c.price-made.new.money)
       ((arg (rate-within (found worth)) tt).eq ∙ ap (λ (x : Settled). x.rate) (shown (found worth)))
       c.price-made.ensures
 
@@ -68,7 +67,7 @@ module _ (c : After-amounts-1) where
   made-within =
       let s = start worth in
       let t = s.requires.table in
-      sum_fits s.args.code _ s.args.labels.now s.args.amounts.now s.args.used priced t.few s.requires.within.1.1 t.modest (le_refl _)
+      sum_fits s.args.stood.code _ s.args.labels.now s.args.amounts.now s.args.used priced t.few s.requires.within.1.1 t.modest (le_refl _)
 
   abbrev sum : Got 501000000000000 (c.price-made.result +ℤ worth.worth-carried.result)
   sum = got (add (arg made-within tt) (arg (carried-within worth) tt))
@@ -88,9 +87,7 @@ returns c =
     let made = shown (found w) in
     record {
       line = line-parts _
-          ((arg (rate-within (found w)) tt).eq ∙ ap (λ (x : Settled). x.rate) made)
-          (c.number_of.ensures ∙ ap (λ (x : Settled). number_of x.rule) made)
-          (ap (λ (x : Settled). x.used) made)
+          made
           ((arg (carried-within w) tt).eq ∙ carried-is w)
           ((kept (sum m).reads tt).eq ∙ ap₂ ◌+ℤ◌ (priced m).sum_is (carried-is w));
       rows = (priced m).rows;

@@ -1,5 +1,5 @@
 -- The exceptions announced are read, and the line ends there.
-use Rattle.std.proofs.Common.{◌≡◌, ◌∙◌, ◌≤◌, length, take, arith, rules}
+use Rattle.std.proofs.Common.{◌≡◌, refl, ◌∙◌, ◌≤◌, length, take, arith, rules}
 use Rattle.std.proofs.lemmas.List.{length-take-le}
 use Rattle.std.proofs.lemmas.Result.{err_from_is_err_and}
 use Rattle.parsing.specs.LineLaws.{tail-lacks, tail-longer, tail-ends, tail-only}
@@ -16,7 +16,7 @@ returns-in_err-last c =
     (λ i e. e ≡ NoException a.kind a.announced i) (λ i e k. search rules) c.in_err-last.was in
     let lacking = rw m.1 at c.exceptions_in.ensures.0 in
     rw (p.1, p.2, m.2) (
-      ((c.requires.2, lacking.0), tail-lacks a.line.now a.at a.announced lacking.1),
+      ((refl, refl, lacking.0), tail-lacks a.line.now a.at a.announced lacking.1),
       c.exceptions_in.ensures.1 ∙ c.requires.1,
     )
 
@@ -27,7 +27,7 @@ returns-then-last-line c =
     let few : n ≤ length list = omega (arith, c.exceptions_in.ensures.1, c.requires.1, c.if-announced-gt-EXCEPTIONS.false) in
     let read = mapped_ok c.exceptions_in.result c.map_err.result _ c.map_err.ensures.cases c.in_ok-last.last c.in_ok-last.was in (
       (
-        c.requires.2,
+        refl,
         tail-longer c.args.line.now c.args.at n c.in_ok-last.last (take n list)
             (rw read at c.exceptions_in.ensures.0) (length-take-le n list few) c.if-last-line.true,
       ),

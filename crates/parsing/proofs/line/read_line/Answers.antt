@@ -9,7 +9,7 @@ use Rattle.parsing.specs.declared.line.LineError.{LineError}
 use Rattle.parsing.specs.declared.line.LineError.TheVariants.{NoKind, NoField}
 use Rattle.wording.specs.Text.{field_text}
 use Rattle.parsing.specs.Places.{Row}
-use Rattle.parsing.specs.LineLaws.{no_kind, no_field, no-tail, record-there}
+use Rattle.parsing.specs.LineLaws.{behind-names, no_kind, no_field, no-tail, record-there}
 use Rattle.parsing.proofs.Mapped.{mapped_ok, mapped_err}
 use Rattle.parsing.proofs.line.read_line.Goals as goal
 use Rattle.parsing.proofs.line.read_line.Goals.{In_ok-kind, In_ok-n, In_ok-read}
@@ -27,8 +27,13 @@ returns-in_err-kind c =
     let p = err_from_is_err_and c.from_residual.result c.from_residual.ensures.1 in
     let none = c.in_err-kind.ensures.ok_part in
     let said : ◌≡◌ {A = Result ℕ LineError} (Err c.in_err-kind.field-0.0) (Err NoKind) = rw none at c.in_err-kind.ensures.value in
-    let same : c.in_err-kind.field-0.0 ≡ NoKind = cc in (
-      rw (p.1, p.2, same) (tt, no_kind c.args.line.now c.byte_end-word.result c.byte_end-word.ensures.0 (rw none at c.kind_in.ensures)),
+    let same : c.in_err-kind.field-0.0 ≡ NoKind = cc in
+    let other = rw none at c.kind_in.ensures in (
+      rw (p.1, p.2, same) (
+        tt,
+        rw c.byte_end-word.ensures.0 at other,
+        no_kind c.args.line.now c.byte_end-word.result c.byte_end-word.ensures.0 other,
+      ),
       c.requires,
     )
 
@@ -57,6 +62,7 @@ returns-in_err-read c =
     rw (p.1, p.2, m.2) (
       (
         omega (arith, missing.0, n),
+        rw c.byte_end-word.ensures.0 at w.1,
         no_field c.args.line.now c.byte_end-word.result c.byte_end-word.ensures.0 kind c.in_ok-n.n w.0 w.1 n missing.1,
       ),
       c.requires,
@@ -73,9 +79,11 @@ returns-in_err-after_fields c =
     let r = row place.In_ok-read in
     let p = err_from_is_err_and c.from_residual-in_err-after_fields.result c.from_residual-in_err-after_fields.ensures.1 in
     let t = c.in_err-after_fields.ensures in
+    let names = behind-names c.args.line.now c.in_ok-kind.kind _ _ w.0 (rw c.byte_end-word.ensures.0 at w.1) t.0.0 in
     rw (p.1, p.2) (
       (
-        t.0.0,
+        names.0,
+        names.1,
         no-tail c.args.line.now c.byte_end-word.result c.byte_end-word.ensures.0 c.in_ok-kind.kind c.in_ok-n.n
             w.0 w.1 (numbered place.In_ok-n) _ c.in_ok-read.read.values r.passed r.width r.zeros (rw c.announced.ensures at t.0.1),
       ),

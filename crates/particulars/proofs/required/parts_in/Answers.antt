@@ -1,5 +1,4 @@
 use mathlib.Core.Path.{◌≡◌, sym, ap₂, subst, ◌∙◌}
-use borrow.Author.Rules.{rules}
 use lib.IntN.{ℤ}
 use mir.Syntax.{w64}
 use mir.Val.{to_z, of_z}
