@@ -10,3 +10,4 @@ pub mod Mornings
 pub mod Padding
 pub mod Splits
 pub mod Taken
+pub mod TakenLaws

@@ -25,6 +25,7 @@ use quoting::quote;
 use ranges::in_range;
 use refusals::Refusal;
 use settling::{refresh, settle};
+use std::array;
 
 // What a call answers: the number of its refusal; for an open that is not the next working day, which is refusal 20, the day that is; that it
 // is done; for a trade the buyer's and the seller's total before, total after and limit; for a close that it is done and its report can be read.
@@ -116,21 +117,13 @@ fn call_account(
 fn rates_in(fields: [u64; WIDTH]) -> [i64; 6]
     ensures { result ≡ rates_in fields }
 {
-    let first = unfold(fields[1]);
-    let second = unfold(fields[2]);
-    let third = unfold(fields[3]);
-    let fourth = unfold(fields[4]);
-    let fifth = unfold(fields[5]);
-    let sixth = unfold(fields[6]);
-    [first, second, third, fourth, fifth, sixth]
+    array::from_fn(|k| unfold(fields[k + 1]))
 }
 
 fn margins_in(fields: [u64; WIDTH]) -> [u64; 6]
     ensures { result ≡ margins_in fields }
 {
-    [
-        fields[7], fields[8], fields[9], fields[10], fields[11], fields[12],
-    ]
+    array::from_fn(|k| fields[k + 7])
 }
 
 pub fn deal_in(fields: [u64; WIDTH]) -> Deal

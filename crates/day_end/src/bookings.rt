@@ -13,7 +13,7 @@ ghost use Rattle.day_end.specs.Closable.{mark_at, Bookable};
 use accounts::{Account, close_account};
 use closing::DayEnd;
 use memory::{load_account, load_contract, load_header, load_margins, load_outcome, store_account};
-use positions::{Mark, Position};
+use positions::{Mark, Position, overnight};
 use std::array;
 
 // How the contract in row k is marked. Rule 5 is that of a last trading day.
@@ -59,12 +59,7 @@ fn moved_up(p: [Position; 6], ended: bool) -> [Position; 6]
     if !ended {
         return p;
     }
-    let none = Position {
-        before: 0,
-        net: 0,
-        cost: 0,
-    };
-    [p[1], p[2], p[3], p[4], p[5], none]
+    [p[1], p[2], p[3], p[4], p[5], overnight(0)]
 }
 
 fn closed_row(a: Account, d: DayEnd, ended: bool) -> Account

@@ -24,15 +24,9 @@ pub(crate) fn parties_of(counts: &[u64], h: Header, t: Deal) -> Result<Parties, 
     if !is_open(h.point) {
         return Err(Refusal::NotNow);
     }
-    let Some(contract) = find_contract(counts, t.code) else {
-        return Err(Refusal::NotListed);
-    };
-    let Some(buyer) = find_account(counts, t.buyer) else {
-        return Err(Refusal::UnknownAccount);
-    };
-    let Some(seller) = find_account(counts, t.seller) else {
-        return Err(Refusal::UnknownAccount);
-    };
+    let contract = find_contract(counts, t.code).ok_or(Refusal::NotListed)?;
+    let buyer = find_account(counts, t.buyer).ok_or(Refusal::UnknownAccount)?;
+    let seller = find_account(counts, t.seller).ok_or(Refusal::UnknownAccount)?;
     if t.buyer == t.seller {
         return Err(Refusal::BuyerIsSeller);
     }

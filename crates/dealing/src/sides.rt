@@ -46,10 +46,7 @@ pub(crate) fn judge(
     requires { Moved buyer bought × (Moved seller sold × ((row < 6) × Margins margins)) }
     ensures { result ≡ judged margins row buyer bought seller sold }
 {
-    if buyer.funds.flag {
-        return Err(Refusal::InDefault);
-    }
-    if seller.funds.flag {
+    if buyer.funds.flag || seller.funds.flag {
         return Err(Refusal::InDefault);
     }
     let buys = side_of(buyer.holdings, bought.holdings, row, margins);

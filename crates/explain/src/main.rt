@@ -45,19 +45,16 @@ fn text_at<'a, R: Env>(
 // The number at a place.
 fn number_at<R: Env>(rt: &R, i: usize) -> Result<Option<u64>, Unasked> {
     let mut room = [0u8; 4096];
-    match text_at(rt, i, &mut room)? {
-        None => Ok(None),
-        Some(text) => Ok(Some(number_of(text)?)),
-    }
+    text_at(rt, i, &mut room)?.map(number_of).transpose()
 }
 
 // The day at a place: none where it is left out, or the word `last`.
 fn day_at<R: Env>(rt: &R, i: usize) -> Result<Option<u64>, Unasked> {
     let mut room = [0u8; 4096];
-    match text_at(rt, i, &mut room)? {
-        None | Some(b"last") => Ok(None),
-        Some(text) => Ok(Some(number_of(text)?)),
-    }
+    text_at(rt, i, &mut room)?
+        .filter(|text| *text != b"last".as_slice())
+        .map(number_of)
+        .transpose()
 }
 
 // The question that the arguments ask.

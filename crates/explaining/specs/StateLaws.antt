@@ -1,5 +1,5 @@
 -- A record taken brings the end nearer, and a turn keeps what the next one needs.
-use Rattle.std.specs.Prelude.{◌≡◌, Bool, true, false, cond, List, ℕ, ◌≤◌, ◌<◌, ℤ, Result, Ok, Err}
+use Rattle.std.specs.Prelude.{List, ℕ, ◌≤◌, ◌<◌, ℤ, Result, Ok, Err}
 use Rattle.std.specs.declared.ops.ControlFlow.{ControlFlow}
 use Rattle.std.specs.declared.ops.ControlFlow.TheVariants.{Continue, Break}
 use Rattle.std.proofs.Common.{arith}
@@ -12,15 +12,8 @@ use Rattle.explaining.specs.declared.run.Damaged.{Damaged}
 use Rattle.explaining.specs.States.{Further, GoesOn, Carried}
 use Rattle.desk.specs.FollowLaws.{followable-sound}
 
-fewer : (b : Bool) {x y : ℕ} → x < y → cond b 0 x < y
-fewer true h = omega arith
-fewer false h = h
-
-pub further-on : {end : ℕ} {s r : State} → s.at < r.at → r.at ≤ end → Further end s r
-further-on {r = r} on inside = record { on = omega arith; inside = inside; less = fewer r.bad (omega arith) }
-
-pub further-not : {end : ℕ} {s r : State} → s.at < end → r.at ≡ s.at → r.bad ≡ true → Further end s r
-further-not inside here bad = record { on = omega arith; inside = omega arith; less = rw bad (omega arith) }
+pub further-on : {end : ℕ} {s r : State} {done : Unit} → (s.at < r.at) × (r.at ≤ end) → Further end s r (Ok done)
+further-on (on, inside) = record { on = omega arith; inside = inside; more = on }
 
 pub carried : {n size : ℕ} (w : Window) (s : State) (t : ControlFlow (Result State Damaged) (Window × State)) {counts : List ℕ} {money : List ℤ} {row_counts : List ℕ} {row_money : List ℤ}
     → Within size w → w.from ≤ s.at → s.at ≤ w.to → Followable n counts money row_counts row_money s.rows → GoesOn w s t

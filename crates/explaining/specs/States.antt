@@ -1,7 +1,8 @@
 -- How far a file is followed, and what a run over it in blocks keeps from turn to turn.
-use Rattle.std.specs.Prelude.{◌≡◌, Bool, true, false, cond, List, ℕ, ◌+◌, ◌-◌, ◌≤◌, ◌<◌, ℤ, Result, Ok, Err}
+use Rattle.std.specs.Prelude.{◌≡◌, Bool, true, List, ℕ, ◌+◌, ◌-◌, ◌≤◌, ◌<◌, ℤ, Result, Ok, Err, IfOk}
 use Rattle.std.specs.declared.ops.ControlFlow.{ControlFlow}
 use Rattle.std.specs.declared.ops.ControlFlow.TheVariants.{Continue, Break}
+use Rattle.records.specs.declared.Malformed.{Malformed}
 use Rattle.standing.specs.Made.{Sound}
 use Rattle.window.specs.declared.Window.{Window}
 use Rattle.window.specs.Window.{Within}
@@ -9,15 +10,11 @@ use Rattle.desk.specs.Follows.{Followable}
 use Rattle.explaining.specs.declared.followed.State.{State}
 use Rattle.explaining.specs.declared.run.Damaged.{Damaged}
 
--- how many bytes may still be followed: none where no record stands
-abbrev pub ahead : ℕ → State → ℕ
-ahead end s = cond s.bad 0 (end - s.at)
-
--- a record was taken, or none stands there: fewer bytes are ahead
-pub record Further (end : ℕ) (s r : State) : Type 0 where
+-- a record was taken, or none stands there: the place moves on where one was taken
+pub record Further (end : ℕ) (s r : State) (taken : Result Unit Malformed) : Type 0 where
   pub on : s.at ≤ r.at
   pub inside : r.at ≤ end
-  pub less : ahead end r < end - s.at
+  pub more : IfOk taken (λ done. s.at < r.at)
 
 -- a block is followed from s up to r
 pub record Reaches (end : ℕ) (s r : State) : Type 0 where
@@ -26,7 +23,7 @@ pub record Reaches (end : ℕ) (s r : State) : Type 0 where
 
 -- another record can be taken
 abbrev pub Ready : ℕ → State → Bool → Type 0
-Ready end s r = r ≡ true → (s.bad ≡ false) × (s.at < end)
+Ready end s r = r ≡ true → s.at < end
 
 -- how a turn ends that came to s in the window w
 abbrev pub GoesOn : Window → State → ControlFlow (Result State Damaged) (Window × State) → Type 0

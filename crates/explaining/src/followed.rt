@@ -1,5 +1,5 @@
 // One record of a file that is followed: called on the book, with what the explanation needs of it kept.
-ghost use Rattle.std.specs.Prelude.{◌*◌, ◌<◌, ◌≤◌, ◌≡◌, true, length};
+ghost use Rattle.std.specs.Prelude.{◌*◌, ◌<◌, ◌≤◌, ◌≡◌, length};
 ghost use Rattle.model.specs.Ranged.{GoodTrade};
 ghost use Rattle.standing.specs.Made.{Sound};
 ghost use Rattle.dealing.specs.Dealing.{trade_of};
@@ -15,7 +15,7 @@ use memory::{COUNTS, MONEY};
 use pages::{Close, Contract, LISTED, Notes, Question, is_shown, put_close, put_refused};
 use particulars::{Stood, parts_of, standing_of, totals_asked};
 use ranges::in_range;
-use records::read_record;
+use records::{Malformed, read_record};
 use reports::{bill_of, day_of};
 use std::array;
 
@@ -28,13 +28,11 @@ pub(crate) enum Found {
     Page(usize),
 }
 
-// How far a block of the file is followed: `bad` where no record stands there, which ends the file
-// with what was followed before it. Of the day: the rows of the account's trades and its
+// How far a block of the file is followed. Of the day: the rows of the account's trades and its
 // refused trades. And what was found.
 #[derive(Clone, Copy)]
 pub(crate) struct State {
     pub at: usize,
-    pub bad: bool,
     pub rows: usize,
     pub notes: Notes,
     pub found: Found,
@@ -46,7 +44,6 @@ pub(crate) fn first_state() -> State
 {
     State {
         at: 0,
-        bad: false,
         rows: 0,
         notes: Notes {
             used: 0,
@@ -150,45 +147,6 @@ fn notes_after(
     noted(counts, money, room, n, q, fields, number)
 }
 
-// A state after a record.
-fn moved(s: State, at: usize, rows: usize, notes: Notes) -> State
-    ensures { (result.at ≡ at) × (result.rows ≡ rows) }
-{
-    let found = s.found;
-    State {
-        at,
-        bad: s.bad,
-        rows,
-        notes,
-        found,
-    }
-}
-
-// A state at bytes that are no record.
-fn stopped(s: State) -> State
-    ensures { (result.at ≡ s.at) × ((result.rows ≡ s.rows) × (result.bad ≡ true)) }
-{
-    let mut x = s;
-    x.bad = true;
-    x
-}
-
-// A state after a close: the next day has no trades yet, accepted or refused.
-fn day_over(s: State, at: usize, found: Found) -> State
-    ensures { (result.at ≡ at) × (result.rows ≡ 0) }
-{
-    State {
-        at,
-        bad: s.bad,
-        rows: 0,
-        notes: Notes {
-            used: 0,
-            refused: 0,
-        },
-        found,
-    }
-}
-
 // A record that is no close.
 fn take_call(
     counts: &mut [u64; COUNTS],
@@ -198,17 +156,15 @@ fn take_call(
     room: &mut [u8],
     bytes: &[u8],
     q: Question,
-    s: State,
-) -> State
-    requires at_in_bounds { s.at < length bytes.now }
-    requires followable { Followable q.account counts.old money.old labels.old amounts.old s.rows }
-    ensures followable_2 { Followable q.account counts.new money.new labels.new amounts.new result.rows }
-    ensures further { Further (length bytes.now) s result }
+    s: &mut State,
+) -> Result<(), Malformed>
+    requires at_in_bounds { s.old.at < length bytes.now }
+    requires followable { Followable q.account counts.old money.old labels.old amounts.old s.old.rows }
+    ensures followable_2 { Followable q.account counts.new money.new labels.new amounts.new s.new.rows }
+    ensures further { Further (length bytes.now) s.old s.new result }
 {
-    let Ok(read) = read_record(bytes, s.at) else {
-        return stopped(s);
-    };
-    let followed = follow(
+    let read = read_record(bytes, s.at)?;
+    let taken = follow(
         &mut *counts,
         &mut *money,
         labels,
@@ -217,11 +173,8 @@ fn take_call(
         bytes,
         s.at,
         q.account,
-    );
-    let Ok(taken) = followed else {
-        return stopped(s);
-    };
-    let notes = notes_after(
+    )?;
+    s.notes = notes_after(
         &*counts,
         &*money,
         room,
@@ -231,7 +184,9 @@ fn take_call(
         read.fields,
         taken.answer,
     );
-    moved(s, taken.next, taken.rows, notes)
+    s.at = taken.next;
+    s.rows = taken.rows;
+    Ok(())
 }
 
 // Whether a close is the one that is asked for: that of the day, or the last one so far.
@@ -301,7 +256,7 @@ fn explained(
     Found::Page(length)
 }
 
-// A record that begins as a close.
+// A record that begins as a close. After an accepted one the next day has no trades yet, accepted or refused.
 fn take_close(
     counts: &mut [u64; COUNTS],
     money: &mut [i64; MONEY],
@@ -311,16 +266,16 @@ fn take_close(
     page: &mut [u8],
     bytes: &[u8],
     q: Question,
-    s: State,
-) -> State
-    requires at_in_bounds { s.at < length bytes.now }
-    requires followable { Followable q.account counts.old money.old labels.old amounts.old s.rows }
-    ensures followable_2 { Followable q.account counts.new money.new labels.new amounts.new result.rows }
-    ensures further { Further (length bytes.now) s result }
+    s: &mut State,
+) -> Result<(), Malformed>
+    requires at_in_bounds { s.old.at < length bytes.now }
+    requires followable { Followable q.account counts.old money.old labels.old amounts.old s.old.rows }
+    ensures followable_2 { Followable q.account counts.new money.new labels.new amounts.new s.new.rows }
+    ensures further { Further (length bytes.now) s.old s.new result }
 {
     let before = standing_of(&*counts, &*money, q.account);
     let unpaid = unpaid_of(&*counts, &*money, q.account);
-    let followed = follow(
+    let taken = follow(
         &mut *counts,
         &mut *money,
         &mut *labels,
@@ -329,22 +284,26 @@ fn take_close(
         bytes,
         s.at,
         q.account,
-    );
-    let Ok(taken) = followed else {
-        return stopped(s);
-    };
+    )?;
     let Answer::Closed = taken.answer else {
-        return moved(s, taken.next, taken.rows, s.notes);
+        s.at = taken.next;
+        s.rows = taken.rows;
+        return Ok(());
     };
     let lines = close_lines(&*counts, &*money, &*labels, &mut *amounts, s.rows, before);
     let contracts = contracts_of(before, lines);
     let found = explained(
-        &*counts, &*money, &*labels, &*amounts, room, page, q, s, contracts, unpaid,
+        &*counts, &*money, &*labels, &*amounts, room, page, q, *s, contracts, unpaid,
     );
-    day_over(s, taken.next, found)
+    *s = State {
+        at: taken.next,
+        found,
+        ..first_state()
+    };
+    Ok(())
 }
 
-// The record at the state's place.
+// The record at the state's place. Where none stands, the state stays.
 pub(crate) fn take_record(
     counts: &mut [u64; COUNTS],
     money: &mut [i64; MONEY],
@@ -354,15 +313,14 @@ pub(crate) fn take_record(
     page: &mut [u8],
     bytes: &[u8],
     q: Question,
-    s: State,
-) -> State
-    requires at_in_bounds { s.at < length bytes.now }
-    requires followable { Followable q.account counts.old money.old labels.old amounts.old s.rows }
-    ensures followable_2 { Followable q.account counts.new money.new labels.new amounts.new result.rows }
-    ensures further { Further (length bytes.now) s result }
+    s: &mut State,
+) -> Result<(), Malformed>
+    requires at_in_bounds { s.old.at < length bytes.now }
+    requires followable { Followable q.account counts.old money.old labels.old amounts.old s.old.rows }
+    ensures followable_2 { Followable q.account counts.new money.new labels.new amounts.new s.new.rows }
+    ensures further { Further (length bytes.now) s.old s.new result }
 {
-    let at = s.at;
-    if bytes[at] == 12 {
+    if bytes[s.at] == 12 {
         return take_close(counts, money, labels, amounts, &*room, page, bytes, q, s);
     }
     take_call(counts, money, labels, amounts, room, bytes, q, s)

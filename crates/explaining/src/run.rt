@@ -12,6 +12,7 @@ use crate::followed::{Found, State, first_state, take_record};
 use book::new_book;
 use memory::{COUNTS, MONEY};
 use pages::{Question, put_damaged, put_no_account, put_no_close, put_no_contract};
+use records::Malformed;
 use std::io::{Read, Write};
 use std::ops::ControlFlow;
 use window::{BLOCK, LONGEST, TURNS, Window, first_window, is_whole, left_of, refill};
@@ -40,10 +41,10 @@ fn is_next(s: State, end: usize, ended: bool) -> bool
     requires { s.at ≤ end }
     ensures { Ready end s result }
 {
-    !s.bad && is_whole(end - s.at, ended, LONGEST)
+    is_whole(end - s.at, ended, LONGEST)
 }
 
-// Follows record after record of a block.
+// Follows record after record of a block, until none stands there or one might be cut.
 fn follow_block(
     counts: &mut [u64; COUNTS],
     money: &mut [i64; MONEY],
@@ -54,17 +55,16 @@ fn follow_block(
     bytes: &[u8],
     ended: bool,
     q: Question,
-    first: State,
-) -> State
-    requires at_in_bounds { first.at ≤ length bytes.now }
-    requires followable { Followable q.account counts.old money.old labels.old amounts.old first.rows }
-    ensures followable_2 { Followable q.account counts.new money.new labels.new amounts.new result.rows }
-    ensures reaches { Reaches (length bytes.now) first result }
+    s: &mut State,
+) -> Result<(), Malformed>
+    requires at_in_bounds { s.old.at ≤ length bytes.now }
+    requires followable { Followable q.account counts.old money.old labels.old amounts.old s.old.rows }
+    ensures followable_2 { Followable q.account counts.new money.new labels.new amounts.new s.new.rows }
+    ensures reaches { Reaches (length bytes.now) s.old s.new }
 {
-    let mut s = first;
     // No index: each record says where the next one begins.
-    while is_next(s, bytes.len(), ended) {
-        s = take_record(
+    while is_next(*s, bytes.len(), ended) {
+        take_record(
             &mut *counts,
             &mut *money,
             &mut *labels,
@@ -73,18 +73,18 @@ fn follow_block(
             &mut *page,
             bytes,
             q,
-            s,
-        );
+            &mut *s,
+        )?;
     }
-    s
+    Ok(())
 }
 
 // How a turn ends, by how far it came in its window.
-fn turned(w: Window, s: State) -> Turn
+fn turned(followed: Result<(), Malformed>, s: State, w: Window) -> Turn
     requires { (w.from ≤ s.at) × (w.place + (s.at - w.from) ≤ 18446744073709551615) }
     ensures { GoesOn w s result }
 {
-    if s.bad {
+    if followed.is_err() {
         let place = w.place + (s.at - w.from) as u64;
         return ControlFlow::Break(Err(Damaged { place }));
     }
@@ -115,9 +115,9 @@ fn take_turn<R: Read>(
 {
     let w = refill(input, &mut *block, before, LONGEST);
     let to = w.to;
-    let mut first = s;
-    first.at = w.from;
-    let last = follow_block(
+    let mut last = s;
+    last.at = w.from;
+    let followed = follow_block(
         counts,
         money,
         labels,
@@ -127,9 +127,9 @@ fn take_turn<R: Read>(
         &block[..to],
         w.ended,
         q,
-        first,
+        &mut last,
     );
-    turned(w, last)
+    turned(followed, last, w)
 }
 
 // Takes turns until the file is done.

@@ -57,9 +57,7 @@ pub fn open_day(
     if !is_next(h.point, expected, day) {
         return Err(not_next(expected));
     }
-    let Some(codes) = listed_on(exceptions, day) else {
-        return Err(OpenError::Refused(Refusal::NoSettlementDay));
-    };
+    let codes = listed_on(exceptions, day).ok_or(OpenError::Refused(Refusal::NoSettlementDay))?;
     relist(counts, money, codes, rates, margins);
     store_header(counts, open_header(h, day));
     Ok(())

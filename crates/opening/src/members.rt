@@ -8,19 +8,14 @@ ghost use Rattle.standing.specs.Turns.{Turns};
 
 use accounts::Account;
 use memory::{load_account, store_account};
-use positions::Position;
+use positions::{Position, overnight};
 
 // The position of a row, none where there is no such row.
 fn position_at(positions: [Position; 6], row: usize) -> Position
     requires { length positions ≡ 6 }
     ensures { result ≡ get_or positions row flat }
 {
-    let none = Position {
-        before: 0,
-        net: 0,
-        cost: 0,
-    };
-    positions.get(row).copied().unwrap_or(none)
+    positions.get(row).copied().unwrap_or(overnight(0))
 }
 
 fn relisted_positions(positions: [Position; 6], places: [usize; 6]) -> [Position; 6]

@@ -1,5 +1,6 @@
 // Short texts by value: numbers, rates, times, dates and yuan, as an explanation shows them.
-ghost use Rattle.std.specs.Prelude.{◌+◌, ◌≤◌, ◌<◌, length};
+ghost use Rattle.std.specs.Prelude.{List, ℕ, ◌+◌, ◌≤◌, ◌<◌, length};
+ghost use Rattle.std.specs.Fn.{FnOnceReturnsAtMut};
 
 use decimal::{digits_of, put_number, put_signed, put_word};
 use whole::size;
@@ -18,43 +19,43 @@ impl Piece {
         &self.text[..self.length]
     }
 
-    pub(crate) fn number(number: u64) -> Piece {
+    // What a call puts at the start of fresh room.
+    fn made<F: FnOnce(&mut [u8; 48]) -> usize>(put: F) -> Piece
+        requires callable { F.IsAlwaysCallable put }
+        requires short { (old : List ℕ) (n : ℕ) (new : List ℕ) → FnOnceReturnsAtMut F.FnOnce put old n new → n ≤ 48 }
+    {
         let mut text = [0u8; 48];
-        let length = put_number(&mut text, 0, number);
+        let length = put(&mut text);
         Piece { text, length }
+    }
+
+    pub(crate) fn number(number: u64) -> Piece {
+        Piece::made(|text| put_number(text, 0, number))
     }
 
     pub(crate) fn signed(number: i64) -> Piece {
-        let mut text = [0u8; 48];
-        let length = put_signed(&mut text, 0, number);
-        Piece { text, length }
+        Piece::made(|text| put_signed(text, 0, number))
     }
 
     pub(crate) fn rate(rate: i64) -> Piece {
-        let mut text = [0u8; 48];
-        let length = put_rate(&mut text, 0, rate);
-        Piece { text, length }
+        Piece::made(|text| put_rate(text, 0, rate))
     }
 
     pub(crate) fn time(seconds: u64) -> Piece {
-        let mut text = [0u8; 48];
-        let length = put_time(&mut text, 0, seconds);
-        Piece { text, length }
+        Piece::made(|text| put_time(text, 0, seconds))
     }
 
     // A size in fen in yuan, and any size in hundredths in whole ones.
     pub(crate) fn hundredths(number: u64) -> Piece {
-        let mut text = [0u8; 48];
-        let length = put_hundredths(&mut text, 0, number);
-        Piece { text, length }
+        Piece::made(|text| put_hundredths(text, 0, number))
     }
 
     // The same below zero.
     fn minus(number: u64) -> Piece {
-        let mut text = [0u8; 48];
-        text[0] = b'-';
-        let length = put_hundredths(&mut text, 1, number);
-        Piece { text, length }
+        Piece::made(|text| {
+            text[0] = b'-';
+            put_hundredths(text, 1, number)
+        })
     }
 
     // An amount of fen in yuan.
@@ -71,9 +72,7 @@ impl Piece {
     pub(crate) fn pair(number: u64) -> Piece
         requires { number < 100 }
     {
-        let mut text = [0u8; 48];
-        let length = put_word(&mut text, 0, &pair(number));
-        Piece { text, length }
+        Piece::made(|text| put_word(text, 0, &pair(number)))
     }
 }
 

@@ -1,5 +1,5 @@
 -- What a run over a file in blocks prints: of a block, and of a turn.
-use Rattle.std.specs.Prelude.{◌≡◌, Bool, true, false, ◌⊎◌, List, [], ◌++◌, ℕ, ◌≤◌, ℤ, length, take, drop}
+use Rattle.std.specs.Prelude.{◌≡◌, Bool, true, false, ◌⊎◌, List, [], ◌++◌, ℕ, ◌≤◌, ℤ, length, take, drop, Result, Ok, IfOk, IfErr}
 use Rattle.std.specs.declared.ops.ControlFlow.{ControlFlow}
 use Rattle.std.specs.declared.ops.ControlFlow.TheVariants.{Continue, Break}
 use Rattle.numbers.specs.Below.{Small}
@@ -9,6 +9,7 @@ use Rattle.decimal.specs.Put.{Put}
 use Rattle.window.specs.declared.Window.{Window}
 use Rattle.window.specs.Window.{held}
 use Rattle.printing.specs.declared.run.Progress.{Progress}
+use Rattle.printing.specs.declared.run.BadRecord.{BadRecord}
 use Rattle.printing.specs.Printed.{Prints, PrintsFirst}
 
 -- ---- bytes of a file
@@ -23,22 +24,21 @@ Enough s more = (more ≡ []) ⊎ (4140 ≤ length s)
 -- ---- printing some of them
 -- where the printing of a window begins: with no text
 abbrev pub start : Window → Progress
-start w = record { at = w.from; place = w.place; used = 0; bad = false }
+start w = record { at = w.from; place = w.place; used = 0 }
 
 -- Some bytes are printed from p up to r. `May more`: more may follow them in the file. Where no record was bad, the text stands before what
 -- the file prints from r on; where one was, it is all that the file prints.
-pub record PrintedUpTo (May : List ℕ → Type 0) (bytes : List ℕ) (p : Progress) (counts : List ℕ) (money : List ℤ) (room : List ℕ) (r : Progress) (counts' : List ℕ) (money' : List ℤ) (room' : List ℕ) : Type 0 where
+pub record PrintedUpTo (May : List ℕ → Type 0) (bytes : List ℕ) (p : Progress) (counts : List ℕ) (money : List ℤ) (room : List ℕ) (r : Progress) (taken : Result Unit BadRecord) (counts' : List ℕ) (money' : List ℤ) (room' : List ℕ) : Type 0 where
   pub text : List ℕ
   pub put : Put room p.used text r.used room'
-  pub first : r.bad ≡ false
-      → PrintsFirst (view counts money) p.place (drop p.at bytes) text (view counts' money') r.place (drop r.at bytes)
-  pub all : r.bad ≡ true → (more : List ℕ) → May more → Small more → Prints (view counts money) p.place (drop p.at bytes ++ more) text
+  pub first : IfOk taken (λ done. PrintsFirst (view counts money) p.place (drop p.at bytes) text (view counts' money') r.place (drop r.at bytes))
+  pub all : IfErr taken (λ bad. (more : List ℕ) → May more → Small more → Prints (view counts money) p.place (drop p.at bytes ++ more) text)
 
 -- ---- a turn
 -- how a turn ends by what is printed of a window: the run goes on with what is left, or ends at a bad record or at the file's end
-abbrev pub TurnedTo : Progress → Window → ControlFlow Bool Window → Type 0
-TurnedTo p w (Continue next) = (p.bad ≡ false) × (next ≡ record { from = p.at; to = w.to; place = p.place; ended = w.ended })
-TurnedTo p w (Break written) = (written ≡ true) × ((p.bad ≡ true) ⊎ ((p.bad ≡ false) × ((w.ended ≡ true) × (p.at ≡ w.to))))
+abbrev pub TurnedTo : Progress → Result Unit BadRecord → Window → ControlFlow Bool Window → Type 0
+TurnedTo p taken w (Continue next) = (taken ≡ Ok tt) × (next ≡ record { from = p.at; to = w.to; place = p.place; ended = w.ended })
+TurnedTo p taken w (Break written) = (written ≡ true) × IfOk taken (λ done. (w.ended ≡ true) × (p.at ≡ w.to))
 
 -- By how a turn ends that had bytes s in hand: its text stands before what the file prints from the next window on; or it is all that the
 -- file prints; or it was not written.

@@ -6,7 +6,6 @@ use Rattle.records.specs.declared.Malformed.{Malformed}
 use Rattle.records.specs.Records.{Parsed, unread, parsed, reading}
 use Rattle.standing.specs.Standing.{view}
 use Rattle.standing.specs.Made.{Sound}
-use Rattle.book.specs.declared.calls.Answer.{Answer}
 use Rattle.book.specs.declared.bytes.Fed.{Fed}
 use Rattle.book.specs.Called.{answer_of}
 use Rattle.book.specs.Feeding.{FedBy, FedAt}

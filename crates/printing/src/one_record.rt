@@ -27,7 +27,7 @@ pub fn print_record(
     requires { Sound counts.old money.old × ((at < length bytes.now) × (used + 8400 ≤ length room.old)) }
     ensures { PrintedAt bytes.now at place counts.old money.old room.old used result counts.new money.new room.new }
 {
-    let kind = wide(bytes[at]);
+    let kind = u64::from(bytes[at]);
     match feed(&mut *counts, &mut *money, bytes, at) {
         Err(_) => Printed::Bad(put_bad(room, used, place)),
         Ok(fed) => {
@@ -35,10 +35,4 @@ pub fn print_record(
             Printed::Next(fed.next, after)
         }
     }
-}
-
-fn wide(byte: u8) -> u64
-    ensures { result ≡ byte }
-{
-    byte as u64
 }

@@ -4,7 +4,7 @@ ghost use Rattle.std.specs.Prelude.{◌+◌, ◌-◌, ◌≤◌, ◌<◌, ◌≡
 ghost use Rattle.standing.specs.Made.{Sound};
 ghost use Rattle.window.specs.Window.{Within};
 ghost use Rattle.printing.specs.Turns.{GoesOn, Nearer, Reaches, Printable};
-ghost use Rattle.printing.specs.Blocks.{Enough, Follows, PrintedUpTo, TurnedTo, TurnTaken, start};
+ghost use Rattle.printing.specs.Blocks.{Enough, Follows, PrintedUpTo, TurnedTo, TurnTaken};
 
 use crate::one_record::{Printed, print_record};
 use book::new_book;
@@ -16,26 +16,27 @@ use window::{BLOCK, LONGEST, TURNS, Window, first_window, is_whole, left_of, ref
 // Text up to here leaves room for the longest answer.
 const NEARLY_FULL: usize = 57136;
 
-// How far a block is printed, and where its text ends. `bad`: a bad record ended it.
-// A flag and no Err: what was put before it stands, and is written.
+// How far a block is printed, and where its text ends.
 #[derive(Clone, Copy)]
 struct Progress {
     at: usize,
     place: u64,
     used: usize,
-    bad: bool,
 }
+
+// No record stands where the next one was to begin: that is put, and the file is printed no further.
+#[derive(Clone, Copy)]
+struct BadRecord;
 
 // What a turn leaves: a window to go on with, or whether all was written.
 type Turn = ControlFlow<bool, Window>;
 
-// Whether another record can be printed: none before was bad, its text has room, and it is whole, since enough bytes follow or the file
-// has no more.
+// Whether another record can be printed: its text has room, and it is whole, since enough bytes follow or the file has no more.
 fn is_next(p: Progress, end: usize, ended: bool) -> bool
     requires { p.at ≤ end }
     ensures { result ≡ true → Printable end ended p }
 {
-    !p.bad && p.used <= NEARLY_FULL && is_whole(end - p.at, ended, LONGEST)
+    p.used <= NEARLY_FULL && is_whole(end - p.at, ended, LONGEST)
 }
 
 // Prints the next record.
@@ -44,31 +45,29 @@ fn print_next(
     money: &mut [i64; MONEY],
     bytes: &[u8],
     room: &mut [u8],
-    p: Progress,
-) -> Progress
+    p: &mut Progress,
+) -> Result<(), BadRecord>
     requires sound { Sound counts.old money.old }
-    requires at_in_bounds { (p.at < length bytes.now) × (p.used + 8400 ≤ length room.old) }
-    requires at_bound { p.place + (length bytes.now - p.at) ≤ 18446744073709551615 }
+    requires at_in_bounds { (p.old.at < length bytes.now) × (p.old.used + 8400 ≤ length room.old) }
+    requires at_bound { p.old.place + (length bytes.now - p.old.at) ≤ 18446744073709551615 }
     ensures sound_2 { Sound counts.new money.new }
-    ensures nearer { Nearer (length bytes.now) p result }
-    ensures printed_up_to { PrintedUpTo (Enough (drop p.at bytes.now)) bytes.now p counts.old money.old room.old result counts.new money.new room.new }
+    ensures nearer { Nearer (length bytes.now) p.old p.new result }
+    ensures printed_up_to { PrintedUpTo (Enough (drop p.old.at bytes.now)) bytes.now p.old counts.old money.old room.old p.new result counts.new money.new room.new }
 {
-    let at = p.at;
-    let printed = print_record(counts, money, bytes, at, p.place, room, p.used);
+    let printed = print_record(counts, money, bytes, p.at, p.place, room, p.used);
     match printed {
-        Printed::Bad(after) => Progress {
-            used: after,
-            bad: true,
-            ..p
-        },
+        Printed::Bad(after) => {
+            p.used = after;
+            Err(BadRecord)
+        }
         Printed::Next(next, after) => {
-            let place = p.place + (next - at) as u64;
-            Progress {
+            let place = p.place + (next - p.at) as u64;
+            *p = Progress {
                 at: next,
                 place,
                 used: after,
-                bad: false,
-            }
+            };
+            Ok(())
         }
     }
 }
@@ -79,36 +78,31 @@ fn print_block(
     money: &mut [i64; MONEY],
     bytes: &[u8],
     room: &mut [u8],
-    w: Window,
-) -> Progress
+    p: &mut Progress,
+    ended: bool,
+) -> Result<(), BadRecord>
     requires sound { Sound counts.old money.old }
-    requires from_in_bounds { (w.from ≤ length bytes.now) × (65536 ≤ length room.old) }
-    requires from_bound { w.place + (length bytes.now - w.from) ≤ 18446744073709551615 }
+    requires reaches { Reaches (length bytes.now) p.old p.old × (65536 ≤ length room.old) }
+    requires at_bound { p.old.place + (length bytes.now - p.old.at) ≤ 18446744073709551615 }
     ensures sound_2 { Sound counts.new money.new }
-    ensures reaches { Reaches (length bytes.now) (start w) result }
-    ensures printed_up_to { PrintedUpTo (Follows w.ended) bytes.now (start w) counts.old money.old room.old result counts.new money.new room.new }
+    ensures reaches_2 { Reaches (length bytes.now) p.old p.new }
+    ensures printed_up_to { PrintedUpTo (Follows ended) bytes.now p.old counts.old money.old room.old p.new result counts.new money.new room.new }
 {
-    let mut p = Progress {
-        at: w.from,
-        place: w.place,
-        used: 0,
-        bad: false,
-    };
     // No index: each record says where the next one begins.
-    while is_next(p, bytes.len(), w.ended) {
-        p = print_next(&mut *counts, &mut *money, bytes, &mut *room, p);
+    while is_next(*p, bytes.len(), ended) {
+        print_next(&mut *counts, &mut *money, bytes, &mut *room, &mut *p)?;
     }
-    p
+    Ok(())
 }
 
 // Whether a file is done: it ended at a bad record, or all of it is printed.
-fn turned(p: Progress, w: Window) -> Turn
+fn turned(printed: Result<(), BadRecord>, p: Progress, w: Window) -> Turn
     requires { (w.from ≤ p.at) × (p.place + w.from ≡ w.place + p.at) }
-    ensures { TurnedTo p w result }
+    ensures { TurnedTo p printed w result }
 {
-    if p.bad {
+    let Ok(()) = printed else {
         return ControlFlow::Break(true);
-    }
+    };
     match left_of(w, p.at) {
         None => ControlFlow::Break(true),
         Some(rest) => ControlFlow::Continue(rest),
@@ -134,12 +128,16 @@ fn take_turn<R: Read, W: Write>(
 {
     let w = refill(input, &mut *block, before, LONGEST);
     let to = w.to;
-    let p = print_block(counts, money, &block[..to], &mut *room, w);
-    let used = p.used;
-    if output.write_all(&room[..used]).is_err() {
+    let mut p = Progress {
+        at: w.from,
+        place: w.place,
+        used: 0,
+    };
+    let printed = print_block(counts, money, &block[..to], &mut *room, &mut p, w.ended);
+    if output.write_all(&room[..p.used]).is_err() {
         return ControlFlow::Break(false);
     }
-    turned(p, w)
+    turned(printed, p, w)
 }
 
 // Takes turns until the file is done or a write fails, and answers whether all was written.

@@ -42,9 +42,7 @@ pub fn quote(
     if !is_open(h.point) {
         return Err(Refusal::NotNow);
     }
-    let Some(k) = find_contract(&counts[..], code) else {
-        return Err(Refusal::NotListed);
-    };
+    let k = find_contract(&counts[..], code).ok_or(Refusal::NotListed)?;
     if !in_hours(time) {
         return Err(Refusal::OutOfHours);
     }

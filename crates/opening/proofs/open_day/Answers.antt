@@ -6,6 +6,9 @@ use Prim.Native.Nat.{ℕ, ◌+◌, ◌-◌, ◌≤◌}
 use native.Mathlib.Omega.{arith}
 use borrow.Author.Tests.{not-true, not-false}
 use lib.Dec.{eqb}
+use Rattle.std.proofs.lemmas.Result.{err_from_is_err_and}
+use Rattle.refusals.specs.declared.Refusal.TheVariants.{NoSettlementDay}
+use Rattle.opening.specs.declared.dates.OpenError.TheVariants.{Refused}
 use Rattle.lists.specs.Parts.{part, part-width}
 use Rattle.days.specs.Days.{rising, is_working, next_working, is_on}
 use Rattle.calendar.specs.Listing.{listing, known_codes}
@@ -117,11 +120,15 @@ returns-then-not-is_next c =
 pub listed_on-requires : goal.listed_on-requires
 listed_on-requires c = rises (header3 c)
 
-pub returns-in_default : goal.returns-in_default
-returns-in_default c =
-    let e2 = else2 (goal.at.returns-in_default c).After-next_working-expected in
-    answered-unknown (start (header2 e2)).requires _ (shut (else1 (goal.at.Else-not-is_working e2).After-is_working)) (works e2) (next (goal.at.returns-in_default c).Else-not-is_next)
-    (codes-unknown _ (sym (listing-is (goal.at.returns-in_default c).After-listed_on) ∙ c.in_default.is))
+pub returns-in_err-codes : goal.returns-in_err-codes
+returns-in_err-codes c =
+    let e2 = else2 (goal.at.returns-in_err-codes c).After-next_working-expected in
+    let told = c.in_err-codes.ensures in
+    let p = err_from_is_err_and c.from_residual.result c.from_residual.ensures.1 in
+    let said : c.in_err-codes.field-0.0 ≡ Refused NoSettlementDay = cc (rw told.ok_part at told.value) in
+    rw (p.1, p.2, said)
+    (answered-unknown (start (header2 e2)).requires _ (shut (else1 (goal.at.Else-not-is_working e2).After-is_working)) (works e2) (next (goal.at.returns-in_err-codes c).Else-not-is_next)
+    (codes-unknown _ (sym (listing-is (goal.at.returns-in_err-codes c).After-listed_on) ∙ told.ok_part)))
 
 pub relist-requires : goal.relist-requires
 relist-requires c =
@@ -137,7 +144,7 @@ pub returns : goal.returns
 returns c =
     let e2 = else2 (goal.at.returns c).After-next_working-expected in
     let h = header2 e2 in
-    let known = codes-known _ _ (sym (listing-is (goal.at.returns c).After-listed_on) ∙ c.in-Some.is) in
+    let known = codes-known _ _ (sym (listing-is (goal.at.returns c).After-listed_on) ∙ c.in_ok-codes.ensures.ok_part) in
     rw (c.store_header.ensures, c.open_header.ensures, h.load_header-h.ensures)
     (answered-open (start h).requires _ (shut (else1 (goal.at.Else-not-is_working e2).After-is_working)) (works e2) (next (goal.at.returns c).Else-not-is_next)
     known.0

@@ -2,9 +2,10 @@
 use mathlib.Core.Path.{◌≡◌, sym, ap, ap₂, ◌∙◌}
 use mathlib.Core.Bool.{true, ◌||◌}
 use native.Mathlib.Omega.{arith}
-use borrow.Author.Rules.{rules}
 use borrow.Author.Tests.{le-leb, lt-leb, not-true, not-false}
 use lib.Dec.{eqb, leb}
+use Rattle.std.proofs.lemmas.Result.{err_from_is_err_and}
+use Rattle.refusals.specs.declared.Refusal.TheVariants.{NotListed}
 use Rattle.whole.specs.Machine.{arg, passed}
 use Rattle.tallies.specs.Means.{weighted}
 use Rattle.tallies.specs.Tally.{with_quote}
@@ -22,7 +23,7 @@ use Rattle.hours.specs.Searched.{code-at, code-none}
 use Rattle.quoting.specs.Quotes.{has_room, quoted_row}
 use Rattle.quoting.specs.QuoteLaws.{shut, unlisted, out-of-hours, too-early, full, done, row_small, contract-in, tally-sound, written}
 use Rattle.quoting.proofs.quote.Goals as goal
-use Rattle.quoting.proofs.quote.Goals.{After-find_contract, After-has_room, After-is_open, After-load_contract-x, After-load_header-h, After-with_quote-x, Else-not-in_hours, Else-not-is_open, Else-time-h, In-Some, Start}
+use Rattle.quoting.proofs.quote.Goals.{After-find_contract, After-has_room, After-is_open, After-load_contract-x, After-load_header-h, After-with_quote-x, Else-not-in_hours, Else-not-is_open, Else-time-h, In_ok-k, Start}
 
 abbrev quotation : Start → Quote
 quotation s = record { time = s.args.time; code = s.args.code; side = s.args.side; rate = s.args.rate }
@@ -34,14 +35,14 @@ book s = view s.args.counts.now s.args.money.now
 abbrev start : After-load_header-h → Start
 start c = (goal.at.After-load_header-h c).Start
 
-abbrev found : In-Some → After-find_contract
-found c = (goal.at.In-Some c).After-find_contract
+abbrev found : In_ok-k → After-find_contract
+found c = (goal.at.In_ok-k c).After-find_contract
 
-abbrev before-k : In-Some → Else-not-is_open
+abbrev before-k : In_ok-k → Else-not-is_open
 before-k c = (goal.at.After-find_contract (found c)).Else-not-is_open
 
-abbrev before-hours : Else-not-in_hours → In-Some
-before-hours c = (goal.at.Else-not-in_hours c).In-Some
+abbrev before-hours : Else-not-in_hours → In_ok-k
+before-hours c = (goal.at.Else-not-in_hours c).In_ok-k
 
 abbrev before-clock : Else-time-h → Else-not-in_hours
 before-clock c = (goal.at.Else-time-h c).Else-not-in_hours
@@ -52,7 +53,7 @@ before-load c = (goal.at.After-load_contract-x c).Else-time-h
 abbrev start-live : Else-not-is_open → Start
 start-live c = start (goal.at.Else-not-is_open c).After-load_header-h
 
-abbrev start-k : In-Some → Start
+abbrev start-k : In_ok-k → Start
 start-k c = start-live (before-k c)
 
 abbrev start-clock : Else-time-h → Start
@@ -68,10 +69,10 @@ open_is c = sym (c.is_open.ensures ∙ ap (λ (x : Header). eqb x.point 2 || eqb
 live : (c : Else-not-is_open) → is_open (book (start-live c)).today.point ≡ true
 live c = open_is (goal.at.Else-not-is_open c).After-is_open ∙ not-false _ c.if-not-is_open.false-raw
 
-row : (c : In-Some) → let s = start-k c in Stands (book s).contracts.codes s.args.code c.in-Some.k
+row : (c : In_ok-k) → let s = start-k c in Stands (book s).contracts.codes s.args.code c.in_ok-k.k
 row c =
     let h = (start-k c).requires.0 in
-    code-at (sound-kept h) (sound-holds h) _ _ (sym (found c).find_contract.ensures ∙ c.in-Some.is)
+    code-at (sound-kept h) (sound-holds h) _ _ (sym (found c).find_contract.ensures ∙ c.in_ok-k.ensures.ok_part)
 
 hours : (c : Else-not-in_hours) → in_hours (start-k (before-hours c)).args.time ≡ true
 hours c = sym c.in_hours.ensures ∙ not-false _ c.if-not-in_hours.false-raw
@@ -112,17 +113,21 @@ find_contract-requires c =
     let s = (start-live c).requires.0 in
     ((sound-long s).counts, sound-listed s)
 
-pub returns-in_default : goal.returns-in_default
-returns-in_default c =
-    let s = start-live (goal.at.returns-in_default c).Else-not-is_open in
+pub returns-in_err-k : goal.returns-in_err-k
+returns-in_err-k c =
+    let s = start-live (goal.at.returns-in_err-k c).Else-not-is_open in
     let h = s.requires.0 in
-    unlisted h (quotation s) (live (goal.at.returns-in_default c).Else-not-is_open)
-    (code-none (sound-kept h) (sound-holds h) s.args.code (sym c.find_contract.ensures ∙ c.in_default.is))
+    let told = c.in_err-k.ensures in
+    let p = err_from_is_err_and c.from_residual.result c.from_residual.ensures.1 in
+    let said : c.in_err-k.field-0.0 ≡ NotListed = cc (rw told.ok_part at told.value) in
+    rw (p.1, p.2, said)
+    (unlisted h (quotation s) (live (goal.at.returns-in_err-k c).Else-not-is_open)
+    (code-none (sound-kept h) (sound-holds h) s.args.code (sym c.find_contract.ensures ∙ told.ok_part)))
 
 pub returns-then-not-in_hours : goal.returns-then-not-in_hours
 returns-then-not-in_hours c =
-    let s = start-k (goal.at.returns-then-not-in_hours c).In-Some in
-    out-of-hours s.requires.0 (quotation s) (live (before-k (goal.at.returns-then-not-in_hours c).In-Some)) (row (goal.at.returns-then-not-in_hours c).In-Some) (sym c.in_hours.ensures ∙ not-true _ c.if-not-in_hours.true-raw)
+    let s = start-k (goal.at.returns-then-not-in_hours c).In_ok-k in
+    out-of-hours s.requires.0 (quotation s) (live (before-k (goal.at.returns-then-not-in_hours c).In_ok-k)) (row (goal.at.returns-then-not-in_hours c).In_ok-k) (sym c.in_hours.ensures ∙ not-true _ c.if-not-in_hours.true-raw)
 
 pub returns-then-time-h : goal.returns-then-time-h
 returns-then-time-h c =
@@ -177,7 +182,7 @@ returns c =
     let q = before-load (goal.at.returns c).After-load_contract-x in
     let p = before-hours (before-clock q) in
     let s = start-clock q in
-    let k = p.in-Some.k in
+    let k = p.in_ok-k.k in
     done s.requires.0 (quotation s) (live (before-k p)) (row p) (hours (before-clock q)) (clock q)
     (room (goal.at.returns c).After-has_room ∙ not-false _ c.if-not-has_room.false-raw)
     (written s.requires.0 (quotation s) (row p) c.load_contract-x.ensures (before-k p).load_header-h.ensures

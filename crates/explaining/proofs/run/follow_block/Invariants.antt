@@ -1,7 +1,7 @@
 -- Each record brings the end nearer, and keeps the memory and the table of a history.
-use Rattle.std.specs.Prelude.{◌≡◌, length}
+use Rattle.std.specs.Prelude.{◌≡◌, ◌-◌, length}
 use Rattle.desk.specs.Follows.{Followable}
-use Rattle.explaining.specs.States.{Reaches, ahead}
+use Rattle.explaining.specs.States.{Reaches}
 use Rattle.explaining.proofs.run.follow_block.Given as goal
 
 abbrev pub invariant-loop-q : goal.invariant-loop-q
@@ -11,4 +11,4 @@ invariant-loop-q l =
     × ((length l.labels ≡ length l.initial.labels) × ((length l.amounts ≡ length l.initial.amounts) × ((length l.notes ≡ length l.initial.notes) × (length l.page ≡ length l.initial.page)))))
 
 abbrev pub decreases-loop-q : goal.decreases-loop-q
-decreases-loop-q l = ahead (length l.bytes) l.s
+decreases-loop-q l = length l.bytes - l.s.at

@@ -16,8 +16,8 @@ pub returns : goal.returns
 returns g c =
     let inside = c.refill-w.ensures.within in
     let place = c.refill-w.ensures.place in
-    let on = c.follow_block-last.ensures.reaches.on in
-    let last = within c.refill-w.result (simp length-take (omega arith)) c.follow_block-last.ensures.reaches in
+    let on = c.follow_block-followed.ensures.reaches.on in
+    let last = within c.refill-w.result (simp length-take (omega arith)) c.follow_block-followed.ensures.reaches in
     rw place at
-    (carried c.refill-w.result c.follow_block-last.result c.turned.result inside on last c.follow_block-last.ensures.followable_2
+    (carried c.refill-w.result c.follow_block-followed.new.s c.turned.result inside on last c.follow_block-followed.ensures.followable_2
     c.turned.ensures)

@@ -12,4 +12,4 @@ returns-in-Err c = bad-printed c.feed.ensures c.in-Err.is c.put_bad.ensures
 pub returns-in-Ok : goal.returns-in-Ok
 returns-in-Ok c =
     answer-printed c.feed.ensures (λ i. (c.shared_slice_known-2-1.given i).fits) c.in-Ok.is
-    c.wide-kind.ensures c.put_answer-after.ensures
+    c.from-kind.ensures c.put_answer-after.ensures
