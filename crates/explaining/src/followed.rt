@@ -165,18 +165,11 @@ fn take_call(
 {
     let read = read_record(bytes, s.at)?;
     let taken = follow(
-        &mut *counts,
-        &mut *money,
-        labels,
-        amounts,
-        s.rows,
-        bytes,
-        s.at,
-        q.account,
+        counts, money, labels, amounts, s.rows, bytes, s.at, q.account,
     )?;
     s.notes = notes_after(
-        &*counts,
-        &*money,
+        counts,
+        money,
         room,
         s.notes,
         q,
@@ -273,27 +266,20 @@ fn take_close(
     ensures followable_2 { Followable q.account counts.new money.new labels.new amounts.new s.new.rows }
     ensures further { Further (length bytes.now) s.old s.new result }
 {
-    let before = standing_of(&*counts, &*money, q.account);
-    let unpaid = unpaid_of(&*counts, &*money, q.account);
+    let before = standing_of(counts, money, q.account);
+    let unpaid = unpaid_of(counts, money, q.account);
     let taken = follow(
-        &mut *counts,
-        &mut *money,
-        &mut *labels,
-        &mut *amounts,
-        s.rows,
-        bytes,
-        s.at,
-        q.account,
+        counts, money, labels, amounts, s.rows, bytes, s.at, q.account,
     )?;
     let Answer::Closed = taken.answer else {
         s.at = taken.next;
         s.rows = taken.rows;
         return Ok(());
     };
-    let lines = close_lines(&*counts, &*money, &*labels, &mut *amounts, s.rows, before);
+    let lines = close_lines(counts, money, labels, amounts, s.rows, before);
     let contracts = contracts_of(before, lines);
     let found = explained(
-        &*counts, &*money, &*labels, &*amounts, room, page, q, *s, contracts, unpaid,
+        counts, money, labels, amounts, room, page, q, *s, contracts, unpaid,
     );
     *s = State {
         at: taken.next,
@@ -321,7 +307,7 @@ pub(crate) fn take_record(
     ensures further { Further (length bytes.now) s.old s.new result }
 {
     if bytes[s.at] == 12 {
-        return take_close(counts, money, labels, amounts, &*room, page, bytes, q, s);
+        return take_close(counts, money, labels, amounts, room, page, bytes, q, s);
     }
     take_call(counts, money, labels, amounts, room, bytes, q, s)
 }

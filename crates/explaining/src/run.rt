@@ -64,17 +64,7 @@ fn follow_block(
 {
     // No index: each record says where the next one begins.
     while is_next(*s, bytes.len(), ended) {
-        take_record(
-            &mut *counts,
-            &mut *money,
-            &mut *labels,
-            &mut *amounts,
-            &mut *notes,
-            &mut *page,
-            bytes,
-            q,
-            &mut *s,
-        )?;
+        take_record(counts, money, labels, amounts, notes, page, bytes, q, s)?;
     }
     Ok(())
 }
@@ -113,7 +103,7 @@ fn take_turn<R: Read>(
     requires place_bound { before.place + 65536 ≤ 18446744073709551615 }
     ensures { Carried q.account (length block.old) before.place result counts.new money.new labels.new amounts.new }
 {
-    let w = refill(input, &mut *block, before, LONGEST);
+    let w = refill(input, block, before, LONGEST);
     let to = w.to;
     let mut last = s;
     last.at = w.from;
@@ -153,17 +143,7 @@ fn take_turns<R: Read>(
     let mut s = first_state();
     for _ in 0..TURNS {
         let turn = take_turn(
-            &mut *counts,
-            &mut *money,
-            &mut *labels,
-            &mut *amounts,
-            &mut *notes,
-            &mut *page,
-            &mut *block,
-            input,
-            q,
-            w,
-            s,
+            counts, money, labels, amounts, notes, page, block, input, q, w, s,
         );
         match turn {
             ControlFlow::Break(Ok(last)) => return Ok(last.found),
@@ -219,10 +199,8 @@ fn explain_within<R: Read, W: Write>(
     requires { Holds counts.old money.old (rows_of new) }
     ensures { Sound counts.new money.new }
 {
-    let outcome = take_turns(
-        counts, money, labels, amounts, notes, &mut *page, block, input, q,
-    );
-    let length = put_outcome(&mut *page, q, outcome);
+    let outcome = take_turns(counts, money, labels, amounts, notes, page, block, input, q);
+    let length = put_outcome(page, q, outcome);
     write_page(page, length, output)
 }
 
@@ -237,7 +215,7 @@ pub fn explain<R: Read, W: Write>(
 ) -> bool
     ensures { Sound counts.new money.new }
 {
-    new_book(&mut *counts, &mut *money);
+    new_book(counts, money);
     let mut labels = [0u64; ROW_COUNTS];
     let mut amounts = [0i64; ROW_MONEY];
     let mut notes = [0u8; NOTES];
