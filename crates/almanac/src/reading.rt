@@ -1,6 +1,6 @@
 // Reading: a line of the input is a list of exceptions, day numbers with spaces between them.
-use scan::number_in;
-use std::alloc::{AllocError, Global};
+use arrayvec::ArrayVec;
+use scan::{digits_end, number_in};
 
 // No number of a list passes this, and no list is longer.
 const LARGEST: u64 = 9999;
@@ -8,19 +8,24 @@ const LARGEST: u64 = 9999;
 const MOST: usize = 400;
 
 // The days of a line, or none where it is no list.
-pub(crate) fn read_days(alloc: Global, line: &[u8]) -> Result<Option<Vec<u64>>, AllocError> {
-    let mut days = Vec::new(alloc);
-    for word in line.split(|byte| *byte == b' ') {
-        if word.is_empty() {
-            continue;
+pub(crate) fn read_days(line: &[u8]) -> Option<ArrayVec<u64, MOST>> {
+    let mut days = ArrayVec::new();
+    // No index: where a number ends is known once it was read.
+    let mut at = 0;
+    while at < line.len() {
+        let end = digits_end(line, at);
+        if at < end {
+            let day = number_in(&line[at..end])?;
+            if LARGEST < day || days.is_full() {
+                return None;
+            }
+            days.push(day);
+            at = end;
+        } else if line[at] == b' ' {
+            at += 1;
+        } else {
+            return None;
         }
-        let Some(day) = number_in(word) else {
-            return Ok(None);
-        };
-        if LARGEST < day || days.len() == MOST {
-            return Ok(None);
-        }
-        days.push(day)?;
     }
-    Ok(Some(days))
+    Some(days)
 }

@@ -36,6 +36,10 @@ number-says : (b : Book) (c : Call) (a : Answer) → ((o : Opening) → c ≡ op
 number-says b c a other e zero q = e
 number-says b c a other e (suc n) q = sym (plainly b c other (suc n) q)
 
+pub number-refused : (a : Answer) (n : ℕ) → (n ≡ 0 → ⊥) → Refused n ≡ numbered a n
+number-refused a zero h = absurd (h refl)
+number-refused a (suc n) h = refl
+
 deal-says : (b : Book) (r : Result Dealt Refusal) → answer_of b (dealt r) ≡ trade_answer r
 deal-says b (Ok d) = refl
 deal-says b (Err refusal) = refl

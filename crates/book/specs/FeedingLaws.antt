@@ -1,11 +1,12 @@
 -- What feeding and running rest on: the record that was read is called, and a file's records are called one after the other.
 use Rattle.std.proofs.Math.Path.{◌≡◌, refl, sym, ap, subst}
-use Rattle.std.proofs.Common.{ap₂, ◌∙◌, zero-le, le-ltb}
+use Rattle.std.proofs.Common.{ap₂, ◌∙◌, zero-le, drop_of_length-le, le-ltb}
 use mathlib.Core.List.{List, [], ◌∷◌, reverse, reverse_aux}
 use Rattle.std.specs.Prelude.{ℕ, ◌-◌, ◌≤◌, ◌<◌, ℤ, Ok, Err}
 use native.Mathlib.Omega.{arith}
 use Rattle.std.proofs.Math.ListN.{length, drop}
 use Rattle.numbers.specs.Below.{Small}
+use Rattle.numbers.specs.Seven.{unbounded}
 use Rattle.decoding.specs.Place.{stored_from}
 use Rattle.decoding.specs.PlaceLaws.{end-here}
 use Rattle.fields.specs.Fields.{announced}
@@ -144,6 +145,11 @@ module _ {bytes : List ℕ} {place : ℕ} {counts : List ℕ} {money : List ℤ}
           → Ran bytes place counts' money'
       go unread i (q, (c, m)) = rw (c, m) (run_ends i)
       go (parsed e rest) i (a, (q, h)) = let z : ◌≡◌ {A = ℕ} 0 1 = cc in absurd (omega arith)
+
+-- past the end no record can be read
+pub none_left : (s : List ℕ) (place : ℕ) → length s ≤ place → reading (drop place s) ≡ unread
+unfolding reading unbounded
+none_left s place h = rw (drop_of_length-le s h)
 
 -- what was written of records reads to its end as just these
 pub reads-written : (l : List Entry) → AllWhole l → (entries : List Entry) (left : List ℕ) → ReadsTo (writings l) entries left → entries ≡ l

@@ -1,5 +1,5 @@
 -- What follows for days: the steps by which the code walks, what a search finds, and breaks of days off.
-use Rattle.std.specs.Prelude.{◌≡◌, Bool, ◌&&◌, ◌||◌, not, List, [], ◌∷◌, length, get_or, drop, eqb, ltb, Option, Some, None}
+use Rattle.std.specs.Prelude.{◌≡◌, Bool, ◌&&◌, ◌||◌, not, List, [], ◌∷◌, length, get_or, take, drop, eqb, ltb, Option, Some, None}
 use Rattle.std.proofs.Math.Path.{refl, ap, subst}
 use Rattle.std.proofs.Common.{sym, ap₂, ◌∙◌, add-one, drop_of_length-le, drop-cons}
 use Rattle.std.proofs.Math.Bool.{true, false, cond, and-eq-true_iff, and-false, or-false}
@@ -11,7 +11,8 @@ use native.Mathlib.Omega.{arith}
 use borrow.Author.Tests.{ltb-true, lt-ltb, le-ltb, ne_eqb}
 use Rattle.lists.specs.Has.{has}
 use Rattle.lists.specs.HasLaws.{eqb-flip}
-use Rattle.days.specs.Days.{days, is_exception, rising, rising_after, first_working, next_working, last_working, is_no_day, is_long_break, no_long_break, accepted}
+use Rattle.lists.specs.Keyed.{has-nowhere}
+use Rattle.days.specs.Days.{days, is_exception, LaterFrom, rising, rising_after, first_working, next_working, last_working, is_no_day, is_long_break, no_long_break, accepted}
 
 -- ---- whether a list rises, walked from the front: what is left decides
 
@@ -102,12 +103,36 @@ rising-sorted (x ∷ l) r zero j a b = rising-least x l r j b
 rising-sorted (x ∷ l) r (suc i) zero a b = absurd (omega arith)
 rising-sorted (x ∷ l) r (suc i) (suc j) a b = rising-sorted l (rising-rest x l r) i j (omega arith) (omega arith)
 
+rising_after-take : (x n : ℕ) (l : List ℕ) → rising_after x l ≡ true → rising_after x (take n l) ≡ true
+unfolding rising_after
+rising_after-take x zero l r = refl
+rising_after-take x (suc n) [] r = refl
+rising_after-take x (suc n) (f ∷ l) r =
+    let p = (and-eq-true_iff (ltb x f) (rising_after f l)).0 r in rw (p.0, rising_after-take f n l p.1)
+
+-- the first ones of a list that rises rise
+pub rising-take : (n : ℕ) (e : List ℕ) → rising e ≡ true → rising (take n e) ≡ true
+unfolding rising
+rising-take zero e r = refl
+rising-take (suc n) [] r = refl
+rising-take (suc n) (x ∷ l) r = rising_after-take x n l r
+
 -- ---- an exception, looked up where they rise
 
 pub exception-has : (e : List ℕ) (d : ℕ) → is_exception e d ≡ has d e
 unfolding is_exception has
 exception-has [] d = refl
 exception-has (x ∷ e) d = ap₂ ◌||◌ (eqb-flip x d) (exception-has e d)
+
+-- those that are later than the day can be left out
+pub exception-near : (e : List ℕ) (d n : ℕ) → LaterFrom e d n → is_exception (take n e) d ≡ is_exception e d
+unfolding is_exception
+exception-near [] d zero h = refl
+exception-near [] d (suc n) h = refl
+exception-near (x ∷ e) d zero h =
+    sym (exception-has (x ∷ e) d ∙ has-nowhere (x ∷ e) d (λ k a q. omega (arith, h k (omega arith) a)))
+exception-near (x ∷ e) d (suc n) h =
+    ap (λ t. eqb x d || t) (exception-near e d n (λ k a b. h (suc k) (omega arith) (omega arith)))
 
 pub exception-none : (e : List ℕ) (d : ℕ) → length e ≡ 0 → is_exception e d ≡ false
 unfolding is_exception

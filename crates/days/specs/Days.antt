@@ -1,5 +1,5 @@
 -- Working days: what document 01, 'Calendar and contract months', says of days.
-use Rattle.std.specs.Prelude.{Bool, true, false, ◌&&◌, ◌||◌, not, cond, List, [], ◌∷◌, ℕ, zero, suc, ◌+◌, ◌-◌, ◌%◌, min, eqb, ltb, Option, Some, None}
+use Rattle.std.specs.Prelude.{Bool, true, false, ◌&&◌, ◌||◌, not, cond, List, [], ◌∷◌, length, get_or, ℕ, zero, suc, ◌+◌, ◌-◌, ◌%◌, ◌≤◌, ◌<◌, min, eqb, ltb, Option, Some, None}
 
 -- "Day 0 is Wednesday 2020-01-01; day 3,652 is 2029-12-31."
 abbrev pub days : ℕ
@@ -15,6 +15,10 @@ is_weekend d = eqb (d % 7) 3 || eqb (d % 7) 4
 unfoldable pub is_exception : List ℕ → ℕ → Bool
 is_exception [] d = false
 is_exception (e ∷ rest) d = eqb e d || is_exception rest d
+
+-- the exceptions from the n-th on, counted from 0, are all later than the day
+abbrev pub LaterFrom : List ℕ → ℕ → ℕ → Type 0
+LaterFrom e d n = (k : ℕ) → n ≤ k → k < length e → d < get_or e k 0
 
 -- "strictly rising": each is later than the one before it
 unfoldable pub rising_after : ℕ → List ℕ → Bool

@@ -4,8 +4,8 @@
 // Exceptions are lent as a slice of days that rise. A caller tests that once, by `are_rising`.
 #![tactic(auto)]
 
-ghost use Rattle.std.specs.Prelude.{◌≡◌, true};
-ghost use Rattle.days.specs.Days.{is_weekend, is_exception, rising, is_working, next_working, working_before, accepted};
+ghost use Rattle.std.specs.Prelude.{◌≡◌, true, ◌≤◌, length};
+ghost use Rattle.days.specs.Days.{is_weekend, is_exception, LaterFrom, rising, is_working, next_working, working_before, accepted};
 
 // Whether each exception is later than the one before it.
 pub fn are_rising(exceptions: &[u64]) -> bool
@@ -14,12 +14,33 @@ pub fn are_rising(exceptions: &[u64]) -> bool
     exceptions.is_sorted_by(|earlier, later| *earlier < *later)
 }
 
-// They rise, so a search by halves finds the day where it is among them.
+// How many exceptions, from the first on, may not be later than the day: those behind are. It is doubled until it is enough, so that a day
+// among the first ones takes no longer, however many follow.
+fn reach(exceptions: &[u64], day: u64) -> usize
+    requires { rising exceptions.now ≡ true }
+    ensures within { result ≤ length exceptions.now }
+    ensures behind { LaterFrom exceptions.now day result }
+{
+    let mut most: usize = 1;
+    while most < exceptions.len() && exceptions[most] <= day {
+        most *= 2;
+    }
+    most.min(exceptions.len())
+}
+
+// They rise, so no day before the first or past the last is among them, and a search by halves finds any other where it is.
 fn is_exception(exceptions: &[u64], day: u64) -> bool
     requires { rising exceptions.now ≡ true }
     ensures { result ≡ is_exception exceptions.now day }
 {
-    exceptions.binary_search(&day).is_ok()
+    let Some(first) = exceptions.first() else {
+        return false;
+    };
+    if day < *first || exceptions[exceptions.len() - 1] < day {
+        return false;
+    }
+    let near = reach(exceptions, day);
+    exceptions[..near].binary_search(&day).is_ok()
 }
 
 #[tactic(auto, unfolding(crate::specs::Days::is_weekend))]

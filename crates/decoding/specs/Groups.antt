@@ -104,6 +104,17 @@ scale-before k sc h e ne = go (dec_lt k 9)
 pub scale-under : (sc : ℕ) → Scale sc → (sc ≡ 2 ^ 63 → ⊥) → sc ≤ 2 ^ 56
 scale-under sc (k, h, e) ne = rw e (powers-under k (scale-before k sc h e ne))
 
+-- the group at i of a number that begins at `at`: what the tenth one counts by, what the others count by at most, and that each counts by a scale
+module _ (i at sc : ℕ) (e : sc ≡ 128 ^ (i - at)) where
+  pub scale-top : i ≡ at + 9 → sc ≡ 2 ^ 63
+  scale-top h = let z : i - at ≡ 9 = omega arith in e ∙ ap (λ k. 128 ^ k) z
+
+  pub scale-short : i ≤ at + 9 → (i ≡ at + 9 → ⊥) → sc ≤ 2 ^ 56
+  scale-short h ne = rw e (powers-under (i - at) (omega arith))
+
+  pub scale-is : i ≤ at + 9 → Scale sc
+  scale-is h = (i - at, omega arith, e)
+
 module _ (v b sc : ℕ) (h : v < sc) where
   pub sum-under : b < 128 → sc ≤ 2 ^ 56 → v + b * sc < 2 ^ 64
   sum-under k l = let m : b ≤ 127 = omega arith in let p : b * sc ≤ 127 * 2 ^ 56 = mul-le-mul m l in omega arith

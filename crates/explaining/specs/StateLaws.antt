@@ -13,7 +13,7 @@ use Rattle.explaining.specs.States.{Further, GoesOn, Carried}
 use Rattle.desk.specs.FollowLaws.{followable-sound}
 
 pub further-on : {end : ℕ} {s r : State} {done : Unit} → (s.at < r.at) × (r.at ≤ end) → Further end s r (Ok done)
-further-on (on, inside) = record { on = omega arith; inside = inside; more = on }
+further-on (on, inside) = record { on = omega arith; inside = inside; more = on; stays = tt }
 
 pub carried : {n size : ℕ} (w : Window) (s : State) (t : ControlFlow (Result State Damaged) (Window × State)) {counts : List ℕ} {money : List ℤ} {row_counts : List ℕ} {row_money : List ℤ}
     → Within size w → w.from ≤ s.at → s.at ≤ w.to → Followable n counts money row_counts row_money s.rows → GoesOn w s t

@@ -1,5 +1,5 @@
 -- How far a file is followed, and what a run over it in blocks keeps from turn to turn.
-use Rattle.std.specs.Prelude.{◌≡◌, Bool, true, List, ℕ, ◌+◌, ◌-◌, ◌≤◌, ◌<◌, ℤ, Result, Ok, Err, IfOk}
+use Rattle.std.specs.Prelude.{◌≡◌, Bool, true, List, ℕ, ◌+◌, ◌-◌, ◌≤◌, ◌<◌, ℤ, Result, Ok, Err, IfOk, IfErr}
 use Rattle.std.specs.declared.ops.ControlFlow.{ControlFlow}
 use Rattle.std.specs.declared.ops.ControlFlow.TheVariants.{Continue, Break}
 use Rattle.records.specs.declared.Malformed.{Malformed}
@@ -10,11 +10,12 @@ use Rattle.desk.specs.Follows.{Followable}
 use Rattle.explaining.specs.declared.followed.State.{State}
 use Rattle.explaining.specs.declared.run.Damaged.{Damaged}
 
--- a record was taken, or none stands there: the place moves on where one was taken
+-- a record was taken, or none stands there: the place moves on where one was taken, and stays, with the table, where none stands
 pub record Further (end : ℕ) (s r : State) (taken : Result Unit Malformed) : Type 0 where
   pub on : s.at ≤ r.at
   pub inside : r.at ≤ end
   pub more : IfOk taken (λ done. s.at < r.at)
+  pub stays : IfErr taken (λ bad. (r.at ≡ s.at) × (r.rows ≡ s.rows))
 
 -- a block is followed from s up to r
 pub record Reaches (end : ℕ) (s r : State) : Type 0 where

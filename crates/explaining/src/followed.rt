@@ -15,6 +15,7 @@ use memory::{COUNTS, MONEY};
 use pages::{Close, Contract, LISTED, Notes, Question, is_shown, put_close, put_refused};
 use particulars::{Stood, parts_of, standing_of, totals_asked};
 use ranges::in_range;
+use rates::number_of;
 use records::{Malformed, read_record};
 use reports::{bill_of, day_of};
 use std::array;
@@ -196,7 +197,9 @@ fn is_listed(q: Question, contracts: [Contract; 6]) -> bool {
 fn contract_of(stood: Stood, line: Line) -> Contract {
     Contract {
         stood,
-        settled: line.settled,
+        rate: line.settled.rate,
+        rule: number_of(line.settled.rule),
+        used: line.settled.used,
         carried: line.carried,
         sum: line.sum,
     }

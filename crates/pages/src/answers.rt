@@ -55,15 +55,12 @@ pub fn put_no_account(page: &mut [u8], q: Question, day: u64) -> usize {
     )
 }
 
-// Puts that the contract is not listed at the close of a day. Where none is asked for there is nothing to say.
+// Puts that the contract is not listed at the close of a day. Where none is asked for it is contract 0.
 pub fn put_no_contract(page: &mut [u8], q: Question, day: u64) -> usize {
-    let Some(code) = q.code else {
-        return 0;
-    };
     put_missing(
         page,
         b"contract ",
-        code,
+        q.code.unwrap_or(0),
         b" is not listed at the close of day ",
         day,
     )

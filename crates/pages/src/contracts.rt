@@ -3,15 +3,17 @@ use crate::page::Page;
 use crate::pieces::Piece;
 use crate::rows::Rows;
 use particulars::Stood;
-use rates::{Rule, Settled, number_of};
 use trail::Row;
 use whole::size;
 
-// One contract at a close: how it stood before it and how it was settled, what was carried over, and the sum of all lines.
+// One contract at a close: how it stood before it, its settlement rate, the number of the rule that gave it and how many trades or quotes that rule
+// used, what was carried over, and the sum of all lines. The page prints the rule's number too, and puts any, so it stays a number.
 #[derive(Clone, Copy)]
 pub struct Contract {
     pub stood: Stood,
-    pub settled: Settled,
+    pub rate: i64,
+    pub rule: u64,
+    pub used: u64,
     pub carried: i64,
     pub sum: i64,
 }
@@ -39,43 +41,43 @@ fn put_counted(page: &mut Page<'_>, before: &[u8], used: u64, after: &[u8]) {
 }
 
 // Puts a rule of document 01, 'Settlement rate', in words.
-fn put_rule(page: &mut Page<'_>, rule: Rule, used: u64) {
+fn put_rule(page: &mut Page<'_>, rule: u64, used: u64) {
     match rule {
-        Rule::LastHour => put_counted(
+        1 => put_counted(
             page,
             b"the lot-weighted mean of the last hour's ",
             used,
             b" trades\n",
         ),
-        Rule::LastFive => put_counted(
+        2 => put_counted(
             page,
             b"the lot-weighted mean of the day's last ",
             used,
             b" trades\n",
         ),
-        Rule::Quotes => put_counted(
+        3 => put_counted(
             page,
             b"half of the sum of the mean bid and the mean offer of the last hour's ",
             used,
             b" quotes\n",
         ),
-        Rule::Previous => page.put(b"the previous settlement rate\n"),
-        Rule::Final => page.put(b"the final rate of the last trading day\n"),
+        4 => page.put(b"the previous settlement rate\n"),
+        _ => page.put(b"the final rate of the last trading day\n"),
     }
 }
 
 // Puts the contract's rates and the rule that gave the new one.
-fn put_rates(page: &mut Page<'_>, stood: Stood, settled: Settled) {
+fn put_rates(page: &mut Page<'_>, x: Contract) {
     page.put(b"contract ");
-    page.put_piece(Piece::number(stood.code));
+    page.put_piece(Piece::number(x.stood.code));
     page.put(b": rate ");
-    page.put_piece(Piece::rate(settled.rate));
+    page.put_piece(Piece::rate(x.rate));
     page.put(b", previous ");
-    page.put_piece(Piece::rate(stood.previous));
+    page.put_piece(Piece::rate(x.stood.previous));
     page.put(b", rule ");
-    page.put_piece(Piece::number(number_of(settled.rule)));
+    page.put_piece(Piece::number(x.rule));
     page.put(b": ");
-    put_rule(page, settled.rule, settled.used);
+    put_rule(page, x.rule, x.used);
 }
 
 // Puts the head of the table.
@@ -139,7 +141,7 @@ fn put_trades(page: &mut Page<'_>, rows: Rows<'_>, code: u64) {
 
 // Puts all of a contract. The account may have nothing to do with it: no trade of the day in it, and nothing carried over.
 pub(crate) fn put_contract(page: &mut Page<'_>, rows: Rows<'_>, x: Contract) {
-    put_rates(page, x.stood, x.settled);
+    put_rates(page, x);
     if x.stood.net == 0 && !rows.has(x.stood.code) {
         page.put(b"  nothing traded, nothing carried over\n");
         return;

@@ -1,7 +1,8 @@
 -- How the parts of a line make its record: the word of the kind, the fields, the exceptions, and nothing after them.
-use Rattle.std.specs.Prelude.{◌≡◌, refl, ℕ, zero, suc, ◌≤◌, ◌<◌, replicate}
+use Rattle.std.specs.Prelude.{◌≡◌, refl, ℕ, zero, suc, ◌+◌, ◌≤◌, ◌<◌, get_or, set, replicate, Result, Ok, Err}
+use Rattle.std.specs.Result.{MatchResult}
 use Rattle.std.proofs.Math.Path.{sym, ap}
-use Rattle.std.proofs.Common.{◌∙◌, zero-add, eqb-true, eq-eqb, le-leb, length-take, take-append-drop, drop_of_length-le, take_all, length-take-le}
+use Rattle.std.proofs.Common.{◌∙◌, zero-add, add-one, eqb-true, eq-eqb, le-leb, length-take, take-append-drop, drop_of_length-le, drop-cons, drop-set-lt, take_all, length-take-le}
 use Rattle.std.proofs.Math.Bool.{true, and-eq-true_iff}
 use mathlib.Core.List.{List, [], ◌∷◌, ◌++◌, append-nil}
 use native.Mathlib.Omega.{arith}
@@ -18,7 +19,7 @@ use Rattle.wording.specs.Text.{field_text, fields_text, exception_text, record_t
 use Rattle.parsing.specs.declared.line.LineError.{LineError}
 use Rattle.parsing.specs.declared.line.LineError.TheVariants.{NoKind, NoField, NoException, TooLong}
 use Rattle.parsing.specs.Parsing.{Small, Sayable, NoRecord, OfRecord, Names, Begun, first_word}
-use Rattle.parsing.specs.Places.{Ends, run, Passed, Lacks, Tailed, NoTail, Behind}
+use Rattle.parsing.specs.Places.{Ends, run, Passed, Lacks, Tailed, NoTail, Behind, Tail}
 use Rattle.parsing.specs.PlaceLaws.{goes_on, word_end, run_ends}
 use Rattle.parsing.specs.WordLaws.{fields-spaced, exceptions-spaced, word-seen, kind-only}
 
@@ -66,6 +67,13 @@ zeros-blank zero (suc m) = zeros-blank zero m
 zeros-blank (suc n) zero = refl
 zeros-blank (suc n) (suc m) = zeros-blank n m
 
+-- a field that is set leaves zeros after it
+pub zeros-after : (fields : List ℕ) (i n : ℕ) → i < length fields → all is_zero (drop i fields) ≡ true → all is_zero (drop (i + 1) (set fields i n)) ≡ true
+unfolding all
+zeros-after fields i n h e =
+    let rest = (and-eq-true_iff (is_zero (get_or fields i 0)) (all is_zero (drop (suc i) fields))).0 (rw (drop-cons fields i 0 h) at e) in
+    rw (add-one i, drop-set-lt (suc i) fields i n (omega arith)) rest.1
+
 small-take : (n : ℕ) {ns : List ℕ} → Small ns → Small (take n ns)
 small-take zero a = none_left
 small-take (suc n) none_left = none_left
@@ -75,6 +83,9 @@ small-take (suc n) (and-more h a) = and-more h (small-take n a)
 module _ (line : List ℕ) (at n : ℕ) where
   exceptions-at : (es : List ℕ) → drop at line ≡ block exception_text es → drop at line ≡ run (λ _. exception_text) 0 es ++ []
   exceptions-at es e = e ∙ run-exceptions 0 es ∙ sym (append-nil (run (λ _. exception_text) 0 es))
+
+  pub tail-too-many : 400 < n → NoTail line at n
+  tail-too-many h es long few small e = omega arith
 
   pub tail-lacks : Lacks (λ _. exception_text) n line at → NoTail line at n
   tail-lacks lacks es long few small e = lacks es [] long small nothing_ends (exceptions-at es e)
@@ -189,3 +200,11 @@ module _ (line : List ℕ) (end : ℕ) (last : end ≡ byte_end 32 line 0) where
                 let same : announced k fs ≡ many = rw (x.0, x.1) in
                 (x.0, x.1, t.only es ((shape-tells k fs (length es) say.shape).there ∙ same) say.few x.2);
           }
+
+      -- what stands behind the fields makes the line this record's, or no record's with what was being read named
+      pub tail-says : (list : List ℕ) (answer : Result Unit LineError) → Tail line more kind (announced kind fields) list answer
+          → MatchResult answer (λ done. OfRecord line kind fields list) (λ error. Names error × Begun line error × NoRecord line)
+      tail-says list (Ok done) t = record-there list t
+      tail-says list (Err error) t =
+          let names = behind-names line kind (announced kind fields) error below (rw last at word) t.0 in
+          (names.0, names.1, no-tail t.1)

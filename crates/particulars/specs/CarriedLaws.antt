@@ -1,5 +1,5 @@
 -- What a sound memory's rows had before today is what its book had.
-use Rattle.std.specs.Prelude.{◌≡◌, refl, List, ◌∷◌, map, ℕ, zero, suc, ◌-◌, ◌<◌, ℤ, length, get_or, replicate, Some, None}
+use Rattle.std.specs.Prelude.{◌≡◌, refl, List, [], ◌∷◌, map, ℕ, zero, suc, ◌-◌, ◌<◌, ℤ, length, get_or, replicate, Some, None}
 use Rattle.std.proofs.Common.{sym, ap, ◌∙◌, map-id, arith}
 use Rattle.std.proofs.Math.Decide.{dec_lt}
 use Rattle.std.proofs.lemmas.Simd.{map-map}
@@ -38,7 +38,13 @@ module _ {X Y Z : Type 0} (n : ℕ) (blank : Y) (row : X → Y) (part : Y → Z)
       map-append part (map row keys) (replicate (n - length (map row keys)) blank)
       ∙ rw (map-map part row keys, length-map keys row, length-map keys (λ k. part (row k)), map-replicate part (n - length keys) blank) refl
 
--- the codes, the previous settlement rates and the nets before today of the six rows
+-- ---- number by number
+module _ {a b c d e f a' b' c' d' e' f' : ℤ} where
+  pub six-same : a ≡ a' → b ≡ b' → c ≡ c' → d ≡ d' → e ≡ e' → f ≡ f'
+      → a ∷ b ∷ c ∷ d ∷ e ∷ f ∷ [] ≡ a' ∷ b' ∷ c' ∷ d' ∷ e' ∷ f' ∷ []
+  six-same p q r s t u = rw (p, q, r, s, t, u)
+
+-- ---- the codes, the previous settlement rates and the nets before today of the six rows
 module _ (b : Book) (n : ℕ) where
   pub standing-codes : map (λ x. x.code) (standing_of b n) ≡ padded 6 0 b.contracts.codes
   standing-codes = part-of-rows 6 no_stood (stood_of b n) (λ x. x.code) b.contracts.codes ∙ ap (padded 6 0) (map-id b.contracts.codes)

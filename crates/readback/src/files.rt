@@ -3,21 +3,34 @@
 ghost use Rattle.std.specs.Prelude.{◌≤◌, length};
 
 use crate::alike::reads_alike;
-use crate::lines::{Stop, read_hex};
+use crate::lines::{FILE, Stop, read_hex};
 use crate::rooms::Record;
+use arrayvec::ArrayVec;
 use fields::WIDTH;
 use ranges::OutOfRange;
 use records::Malformed;
-use std::alloc::Global;
 use std::io::{self, Write};
+
+// Puts a space and a number. The two are gathered first: a number costs one write, and no formatter.
+fn put_number<W: Write>(output: &mut W, number: u64) -> io::Result<()> {
+    let mut text = [b' '; 21];
+    let end = decimal::put_number(&mut text, 1, number);
+    output.write_all(&text[..end])
+}
+
+// Puts a space and a signed number.
+fn put_signed<W: Write>(output: &mut W, number: i64) -> io::Result<()> {
+    let mut text = [b' '; 22];
+    let end = decimal::put_signed(&mut text, 1, number);
+    output.write_all(&text[..end])
+}
 
 // Puts a space and a field of a kind, in the form that the field has.
 fn put_field<W: Write>(output: &mut W, kind: u64, field: usize, value: u64) -> io::Result<()> {
     if fields::is_signed(kind, field) {
-        let number = folding::unfold(value);
-        write!(output, " {number}")
+        put_signed(output, folding::unfold(value))
     } else {
-        write!(output, " {value}")
+        put_number(output, value)
     }
 }
 
@@ -35,7 +48,7 @@ fn put_fields<W: Write>(output: &mut W, kind: u64, values: [u64; WIDTH]) -> io::
 // Puts numbers, each after a space.
 fn put_list<W: Write>(output: &mut W, numbers: &[u64]) -> io::Result<()> {
     for number in numbers {
-        write!(output, " {number}")?;
+        put_number(output, *number)?;
     }
     Ok(())
 }
@@ -153,11 +166,12 @@ fn put_records<W: Write>(output: &mut W, bytes: &[u8]) -> io::Result<()> {
 }
 
 // Puts the answer to a line of hex digits, an event file of at most 8,192 bytes.
-pub(crate) fn put_file<W: Write>(alloc: Global, output: &mut W, line: &[u8]) -> Result<(), Stop> {
-    if 16384 < line.len() {
+pub(crate) fn put_file<W: Write>(output: &mut W, line: &[u8]) -> Result<(), Stop> {
+    if 2 * FILE < line.len() {
         return Err(Stop::NoTest);
     }
-    let bytes = read_hex(alloc, line)?;
+    let mut bytes = ArrayVec::new();
+    read_hex(line, &mut bytes)?;
     put_records(output, bytes.as_slice())?;
     Ok(())
 }

@@ -1,11 +1,17 @@
 // Lines: the bytes that hex digits stand for, and the numbers of a line.
 ghost use Rattle.std.specs.Prelude.{◌<◌, IfOk};
 
-use scan::number_in;
-use std::alloc::{AllocError, Global};
+use arrayvec::ArrayVec;
+use scan::{digits_end, number_in};
 use std::io;
 
-// Why a line is not answered: it is no test, or the system has no memory or does not write.
+// A line has no more numbers: a room, a kind, thirteen fields and 450 exceptions.
+const MOST: usize = 465;
+
+// An event file of a line has no more bytes.
+pub(crate) const FILE: usize = 8192;
+
+// Why a line is not answered: it is no test, or the system does not write.
 #[derive(Drop)]
 pub(crate) enum Stop {
     NoTest,
@@ -15,12 +21,6 @@ pub(crate) enum Stop {
 impl From<io::Error> for Stop {
     fn from(error: io::Error) -> Stop {
         Stop::System(error)
-    }
-}
-
-impl From<AllocError> for Stop {
-    fn from(error: AllocError) -> Stop {
-        Stop::System(io::Error::from(error))
     }
 }
 
@@ -40,30 +40,34 @@ fn hex_byte(digits: &[u8]) -> Result<u8, Stop> {
     Ok(value as u8)
 }
 
-// The bytes that hex digits stand for, two to a byte.
-pub(crate) fn read_hex(alloc: Global, digits: &[u8]) -> Result<Vec<u8>, Stop> {
-    digits
-        .chunks(2)
-        .map(|pair| hex_byte(pair))
-        .try_collect(alloc)
-}
-
-// The number that a word is.
-fn read_number(word: &[u8]) -> Result<u64, Stop> {
-    if word.is_empty() {
-        return Err(Stop::NoTest);
+// The bytes that hex digits stand for, two to a byte, put behind those of the room lent.
+pub(crate) fn read_hex(digits: &[u8], bytes: &mut ArrayVec<u8, FILE>) -> Result<(), Stop> {
+    for pair in digits.chunks(2) {
+        let byte = hex_byte(pair)?;
+        if bytes.is_full() {
+            return Err(Stop::NoTest);
+        }
+        bytes.push(byte);
     }
-    match number_in(word) {
-        Some(number) => Ok(number),
-        None => Err(Stop::NoTest),
-    }
+    Ok(())
 }
 
 // The numbers of a text, each after one space.
-pub(crate) fn read_numbers(alloc: Global, text: &[u8]) -> Result<Vec<u64>, Stop> {
-    let words = text.strip_prefix(b" ").ok_or(Stop::NoTest)?;
-    words
-        .split(|byte| *byte == b' ')
-        .map(|word| read_number(word))
-        .try_collect(alloc)
+pub(crate) fn read_numbers(text: &[u8]) -> Result<ArrayVec<u64, MOST>, Stop> {
+    let mut numbers = ArrayVec::new();
+    // No index: where a number ends is known once it was read.
+    let mut at = 0;
+    while at < text.len() {
+        let first = at + 1;
+        let end = digits_end(text, first);
+        if text[at] != b' ' || end == first || numbers.is_full() {
+            return Err(Stop::NoTest);
+        }
+        let Some(number) = number_in(&text[first..end]) else {
+            return Err(Stop::NoTest);
+        };
+        numbers.push(number);
+        at = end;
+    }
+    Ok(numbers)
 }

@@ -1,11 +1,12 @@
 -- The steps by which a record is read, from place to place, and what the answer's places mean.
-use Rattle.std.specs.Prelude.{◌≡◌, Bool, List, [], ◌∷◌, ◌++◌, ℕ, zero, suc, ◌+◌, ◌-◌, ◌≤◌, ◌<◌, ◌^◌, ltb, get_or, replicate}
+use Rattle.std.specs.Prelude.{◌≡◌, Bool, List, [], ◌∷◌, ◌++◌, ℕ, zero, suc, ◌+◌, ◌-◌, ◌≤◌, ◌<◌, ◌^◌, ltb, get_or, set, replicate}
 use Rattle.std.proofs.Math.Path.{refl, sym, ap}
 use Rattle.std.proofs.Common.{ap₂, ◌∙◌, subst, append_assoc, length-drop, drop_of_length-le, drop-drop, lt-ltb, le-ltb}
 use Rattle.std.proofs.Math.Bool.{true, false, cond}
 use native.Mathlib.Omega.{arith}
 use Rattle.std.proofs.Math.ListN.{length, drop, length-append}
-use Rattle.std.proofs.Math.Seq.{drop-append_seam}
+use Rattle.std.proofs.Math.Seq.{drop-append_seam, append_snoc}
+use Rattle.std.proofs.lemmas.List.{set_at}
 use Rattle.numbers.specs.Below.{Small, below-drop, below_right}
 use Rattle.numbers.specs.Seven.{none, unbounded, encode, decode}
 use Rattle.numbers.specs.SevenLaws.{groups-some}
@@ -37,6 +38,12 @@ padded-at (x ∷ l) n (suc i) = padded-at l n i
 
 pub announced-padded : (kind : ℕ) (fields : List ℕ) → announced kind (padded fields) ≡ announced kind fields
 announced-padded kind fields = rw (padded-at fields (13 - length fields) 2)
+
+-- a number stored after the others
+pub store : (a : List ℕ) (i x : ℕ) → i < 13 → length a ≡ i → set (a ++ replicate (13 - i) 0) i x ≡ (a ++ (x ∷ [])) ++ replicate (13 - (i + 1)) 0
+store a i x h e =
+    let z : 13 - i ≡ suc (13 - (i + 1)) = omega arith in
+    rw (z, set_at a 0 (replicate (13 - (i + 1)) 0) x i e) (sym (append_snoc a x (replicate (13 - (i + 1)) 0)))
 
 pub filled_none : (s : List ℕ) (g : Numbers) → filled s g ≡ None → g ≡ nothing
 filled_none s nothing e = refl

@@ -20,27 +20,21 @@ use std::io::{self, Write};
 use std::rt::Files;
 
 // Packs the text of one file into another. What is wrong with a line is said among the errors.
-fn pack_file<R: Files + AllocGlobal, E: Write>(
-    rt: &R,
-    errors: &mut E,
-    name: &[u8],
-    text: &str,
-    events: &str,
-) {
+fn pack_file<R: Files, E: Write>(rt: &R, errors: &mut E, name: &[u8], text: &str, events: &str) {
     let mut input = open(rt, name, text);
     let mut output = start(rt, name, events);
     let _packed = pack(&mut input, &mut output, errors);
 }
 
 // Unpacks one file into another.
-fn unpack_file<R: Files + AllocGlobal>(rt: &R, name: &[u8], events: &str, text: &str) {
+fn unpack_file<R: Files>(rt: &R, name: &[u8], events: &str, text: &str) {
     let mut input = open(rt, name, events);
     let mut output = start(rt, name, text);
     let _unpacked = unpack(&mut input, &mut output);
 }
 
 // Prints the day of a file.
-fn print_day<R: Files + AllocGlobal>(rt: &R, name: &[u8]) {
+fn print_day<R: Files>(rt: &R, name: &[u8]) {
     let mut counts = [0u64; COUNTS];
     let mut money = [0i64; MONEY];
     let mut input = open(rt, name, ".events");
@@ -49,7 +43,7 @@ fn print_day<R: Files + AllocGlobal>(rt: &R, name: &[u8]) {
 }
 
 // Explains a close of a file.
-fn explain_close<R: Files + AllocGlobal>(rt: &R, name: &[u8], q: Question) {
+fn explain_close<R: Files>(rt: &R, name: &[u8], q: Question) {
     let mut counts = [0u64; COUNTS];
     let mut money = [0i64; MONEY];
     let mut input = open(rt, name, ".events");
@@ -63,7 +57,7 @@ fn say<P: Print>(rt: &P, text: &[u8]) {
 }
 
 // Says whether two files of an example are the same.
-fn compare<R: Files + AllocGlobal + Print>(rt: &R, name: &[u8], made: &str, stored: &str) {
+fn compare<R: Files + Print>(rt: &R, name: &[u8], made: &str, stored: &str) {
     let mut first = open(rt, name, made);
     let mut second = open(rt, name, stored);
     say(rt, name);
@@ -79,12 +73,7 @@ fn compare<R: Files + AllocGlobal + Print>(rt: &R, name: &[u8], made: &str, stor
 }
 
 // Tries an example.
-fn try_example<R: Files + AllocGlobal + Print, E: Write>(
-    rt: &R,
-    errors: &mut E,
-    name: &[u8],
-    q: Question,
-) {
+fn try_example<R: Files + Print, E: Write>(rt: &R, errors: &mut E, name: &[u8], q: Question) {
     pack_file(rt, errors, name, ".txt", ".events");
     unpack_file(rt, name, ".events", ".unpacked");
     pack_file(rt, errors, name, ".unpacked", ".again");
@@ -112,7 +101,7 @@ fn number_at<R: Env>(rt: &R, i: usize) -> Option<u64> {
 }
 
 // Tries the example that an argument names, with the account, the day and the code after it. A day and a code count where they are numbers.
-fn try_argument<R: Files + AllocGlobal + Env + Print, E: Write>(rt: &R, errors: &mut E, i: usize)
+fn try_argument<R: Files + Env + Print, E: Write>(rt: &R, errors: &mut E, i: usize)
     requires { i + 4 ≤ 18446744073709551615 }
 {
     let Some(account) = number_at(rt, i + 1) else {
