@@ -11,6 +11,13 @@ use ranges::OutOfRange;
 use records::Malformed;
 use std::io::{self, Write};
 
+// Puts the number of a record's kind, with which its line begins.
+fn put_kind<W: Write>(output: &mut W, kind: u64) -> io::Result<()> {
+    let mut text = [0u8; 20];
+    let end = decimal::put_number(&mut text, 0, kind);
+    output.write_all(&text[..end])
+}
+
 // Puts a space and a number. The two are gathered first: a number costs one write, and no formatter.
 fn put_number<W: Write>(output: &mut W, number: u64) -> io::Result<()> {
     let mut text = [b' '; 21];
@@ -56,11 +63,8 @@ fn put_list<W: Write>(output: &mut W, numbers: &[u64]) -> io::Result<()> {
 // Puts `ok`, or the number of the refusal.
 fn put_checked<W: Write>(output: &mut W, checked: Result<(), OutOfRange>) -> io::Result<()> {
     match checked {
-        Ok(()) => write!(output, " ok"),
-        Err(refused) => {
-            let number = refused.number();
-            write!(output, " {number}")
-        }
+        Ok(()) => output.write_all(b" ok"),
+        Err(refused) => put_number(output, refused.number()),
     }
 }
 
@@ -68,7 +72,7 @@ fn put_checked<W: Write>(output: &mut W, checked: Result<(), OutOfRange>) -> io:
 // all of that room.
 fn put_record<W: Write>(output: &mut W, record: Record<'_>, bytes: &[u8]) -> io::Result<()> {
     let kind = record.kind;
-    write!(output, "{kind}")?;
+    put_kind(output, kind)?;
     put_fields(output, kind, record.fields)?;
     put_list(output, record.exceptions)?;
     put_checked(
@@ -76,10 +80,10 @@ fn put_record<W: Write>(output: &mut W, record: Record<'_>, bytes: &[u8]) -> io:
         ranges::in_range(kind, record.fields, record.exceptions),
     )?;
     if record.writes_back(bytes) {
-        let length = bytes.len();
-        writeln!(output, " {length}")
+        put_number(output, bytes.len() as u64)?;
+        output.write_all(b"\n")
     } else {
-        writeln!(output, " differs")
+        output.write_all(b" differs\n")
     }
 }
 

@@ -42,9 +42,9 @@ impl Record<'_> {
         if length == 0 || 8192 < length {
             return false;
         }
-        let mut short = [0xAAu8; 8192];
-        let mut exact = [0xAAu8; 8192];
-        self.keeps_room(&mut short[..length - 1]) && self.fills_room(&mut exact[..length], bytes)
+        // A room that was kept is as it was at first, and serves again.
+        let mut room = [0xAAu8; 8192];
+        self.keeps_room(&mut room[..length - 1]) && self.fills_room(&mut room[..length], bytes)
     }
 }
 
