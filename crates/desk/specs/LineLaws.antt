@@ -56,10 +56,6 @@ pub worth-parts : {lots traded rate lots' traded' rate' : ℤ} → lots ≡ lots
 worth-parts p q r = rw (p, q, r)
 
 -- in place of a line where a list has none
-pub six-same : {a b c d e f a' b' c' d' e' f' : ℤ} → a ≡ a' → b ≡ b' → c ≡ c' → d ≡ d' → e ≡ e' → f ≡ f'
-    → a ∷ b ∷ c ∷ d ∷ e ∷ f ∷ [] ≡ a' ∷ b' ∷ c' ∷ d' ∷ e' ∷ f' ∷ []
-six-same p q r s t u = rw (p, q, r, s, t, u)
-
 pub no_line : Line
 no_line = record { settled = no_settled; carried = pos 0; sum = pos 0 }
 
